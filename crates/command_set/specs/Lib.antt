@@ -1,0 +1,5 @@
+pub mod Changes
+pub mod Plain
+pub mod Replies
+pub mod Answers
+pub mod Journals

@@ -1,0 +1,88 @@
+-- The plain store: whole copies of the rows in place of snapshots, and each command at one moment.
+-- There is no chunk, pointer, page or transaction number in it.
+use Rattle.std.specs.Prelude.{ℕ, ◌-◌, List, [], ◌∷◌, Option, Some, None, map as mapped, slice_get, slice_set, replicate, ◌==◌, if◌then◌else◌}
+use Rattle.std.specs.List.{enumerate_from}
+use Rattle.std.specs.Option.{unwrap_or}
+use Rattle.std.specs.Ordering.{nat_cmp}
+use Rattle.std.specs.FinMap as map
+use Rattle.tuple_layout.specs.Places.{Row, Rows}
+use Rattle.tuple_layout.specs.declared.Place.{Place}
+use Rattle.command_set.specs.Changes.{Change, fold_changes}
+use Rattle.command_set.specs.declared.Level.{Level}
+use Rattle.command_set.specs.declared.Set.{Set}
+
+-- an open transaction (PostgreSQL, "Transaction Isolation")
+pub record Transaction : Type 0 where
+  pub level : Level
+  -- the copy of the rows that a repeatable read transaction took at its first data command
+  pub base : Option Rows
+  -- its changes so far, in order
+  pub changes : List Change
+  -- the places that others' commits have changed since the copy
+  pub since : List Place
+  -- the tables that it has used
+  pub used : List ℕ
+  -- the values that it keeps under a name
+  pub handles : map.FinMap nat_cmp (List ℕ)
+
+-- a session
+pub data Session : Type 0 where
+  Outside : Session
+  Failed : Session
+  Open : Transaction → Session
+
+-- the kinds of upkeep of a table (PostgreSQL, "Routine Vacuuming"; VACUUM, its option FULL)
+pub data Upkeep : Type 0 where
+  Main : Upkeep
+  Toast : Upkeep
+  Rewrite : Upkeep
+
+-- upkeep that runs: whose, of which table, of which kind
+pub record Running : Type 0 where
+  pub session : ℕ
+  pub table : ℕ
+  pub kind : Upkeep
+
+-- a state of the plain store; the first session in the list is session 1
+pub record Plain : Type 0 where
+  -- the committed rows
+  pub latest : Rows
+  pub sessions : List Session
+  pub upkeep : List Running
+
+-- the state before the first command, with so many sessions
+abbrev pub first_state : ℕ → Plain
+first_state sessions = record { latest = map.empty; sessions = replicate sessions Outside; upkeep = [] }
+
+-- what a session is; one that does not exist is outside
+abbrev pub session_of : Plain → ℕ → Session
+session_of m s = unwrap_or (slice_get m.sessions (s - 1)) Outside
+
+-- the state with that session in place of what it was
+abbrev pub with_session : Plain → ℕ → Session → Plain
+with_session m s session = record m { sessions = slice_set m.sessions (s - 1) session }
+
+-- what a transaction's reads see: its own changes on its copy, where it has one, else on the committed rows
+abbrev pub view_of : Plain → Transaction → Rows
+view_of m t = fold_changes t.changes (unwrap_or t.base m.latest)
+
+-- its own changes on the committed rows
+abbrev pub now_of : Plain → Transaction → Rows
+now_of m t = fold_changes t.changes m.latest
+
+-- the row at a place, which is empty where there is none
+abbrev pub row_at : Rows → Place → Row
+row_at rows p = unwrap_or (map.get rows p) []
+
+-- the value of a column, from 1
+abbrev pub value_at : Row → ℕ → Option (List ℕ)
+value_at row column = unwrap_or (slice_get row (column - 1)) None
+
+-- the value that was set last for a column among these, if one was
+abbrev pub value_set : List Set → ℕ → Option (Option (List ℕ))
+value_set [] column = None
+value_set (s ∷ sets) column = if s.column == column then Some s.value else value_set sets column
+
+-- the row with these columns set and the others as they were
+abbrev pub row_with : Row → List Set → Row
+row_with row sets = mapped (λ (column, value). unwrap_or (value_set sets column) value) (enumerate_from 1 row)

@@ -1,0 +1,91 @@
+//! Rows and their places, the storages of a table's columns, and how large a row's tuple is.
+#![tactic(auto)]
+
+ghost use Rattle.std.specs.Prelude.{◌≡◌, ℕ, length, IsOk, IsErrOf, IfOk};
+ghost use Rattle.tuple_layout.specs.Schemas.{HasColumns};
+
+use list_facts::ListOf;
+use std::alloc::{AllocError, Global};
+use std::marker::Model;
+pub use toast_io::Bytes;
+
+/// A row's byte strings in the order of their columns, each of at most 65,536 bytes; `None` is null.
+pub type Row = ListOf<Option<Bytes>>;
+
+/// The place of a row: its table's number, from 1, and its key.
+#[derive(Clone, Copy, Debug, PartialEq, Eq, PartialOrd, Ord)]
+pub struct Place {
+    pub table: u16,
+    pub key: i64,
+}
+
+/// How a column's values may be stored (PostgreSQL's storage strategies, in "TOAST").
+#[derive(Clone, Copy, Debug, PartialEq, Eq)]
+pub enum Storage {
+    /// In the tuple, always.
+    Plain,
+    /// In the tuple, or as chunks with a pointer in the tuple.
+    External,
+}
+
+/// The storages of a table's byte-string columns, of which there are 1 to 8.
+#[derive(Debug, Drop)]
+pub struct Schema {
+    storages: ListOf<Storage>,
+}
+
+impl Model for Schema {
+    ghost use Rattle.std.specs.Prelude.{List, length};
+    ghost use Rattle.tuple_layout.specs.Schemas.{HasColumns};
+    ghost use Rattle.tuple_layout.specs.declared.Storage.{Storage};
+
+    ghost Value = { List Storage };
+
+    ghost view = { λ schema. schema.storages };
+
+    ghost invariant = { λ schema. HasColumns (length schema.storages) };
+}
+
+/// Why a list of storages makes no schema.
+#[derive(Clone, Copy, Debug, PartialEq, Eq)]
+pub enum SchemaFault {
+    /// There are none, or more than 8.
+    Count { got: usize },
+    /// No memory was left.
+    Memory,
+}
+
+impl From<AllocError> for SchemaFault {
+    ghost use Rattle.tuple_layout.specs.declared.SchemaFault.TheVariants.{Memory};
+
+    ghost from_gives = { λ _ fault. fault ≡ Memory };
+
+    fn from(_: AllocError) -> Self {
+        SchemaFault::Memory
+    }
+}
+
+impl Schema {
+    /// A table's schema, with its columns in this order.
+    pub fn new(alloc: Global, storages: &[Storage]) -> Result<Schema, SchemaFault>
+        ensures ok { IfOk result (λ schema. schema ≡ storages.now) }
+        ensures columns { IsOk result → HasColumns (length storages.now) }
+        ensures count { (got : ℕ) → IsErrOf result (SchemaFault.Count got) → (got ≡ length storages.now) × ¬ (HasColumns got) }
+        ensures memory { IsErrOf result SchemaFault.Memory → HasColumns (length storages.now) }
+    {
+        let got = storages.len();
+        if got < 1 || got > 8 {
+            return Err(SchemaFault::Count { got });
+        }
+        let storages = ListOf::from_slice(alloc, storages)?;
+        Ok(Schema { storages })
+    }
+
+    /// The storages, in the order of the columns.
+    pub fn storages(&self) -> &[Storage]
+        ensures all { result.now ≡ self.now }
+        ensures columns { HasColumns (length self.now) }
+    {
+        self.storages.as_slice()
+    }
+}

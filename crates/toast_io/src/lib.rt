@@ -1,5 +1,0 @@
-#![tactic(auto)]
-
-use list_facts::ListOf;
-
-pub type Bytes = ListOf<u8>;

@@ -1,0 +1,4 @@
+pub mod Counts
+pub mod Taken
+mod Answered
+mod Pieces

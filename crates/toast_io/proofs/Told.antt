@@ -1,5 +1,5 @@
 -- What the shared words say once a source or a sink tells its bytes.
-use Rattle.std.proofs.Common.{◌≡◌, ◌≤◌, ◌<◌, ◌+◌, ℕ, List, [], ◌++◌, length, drop, Option, None, Some, IfSome, OnSome, arith, ap, subst}
+use Rattle.std.proofs.Common.{◌≡◌, ◌≤◌, ℕ, List, [], ◌++◌, length, drop, Option, None, Some, IfSome, OnSome, ap, subst}
 use Rattle.std.specs.Io.KnownBytes.{Appends, Keeps}
 use Rattle.toast_io.specs.Source.{Takes, ReadsToEnd}
 

@@ -1,4 +1,4 @@
-use Rattle.std.proofs.Common.{◌≡◌, ◌≤◌, ◌-◌, length, take, drop, ap, arith}
+use Rattle.std.proofs.Common.{ap, arith}
 use Rattle.toast_io.specs.MemSource.{SourceInMemory}
 use Rattle.toast_io.proofs.Pieces.{rest_of, piece_given, piece_end}
 use Rattle.toast_io.proofs.mem_source.MemSourceSource.read.Goals as goal

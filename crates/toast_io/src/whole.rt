@@ -1,5 +1,5 @@
 // Whole inputs and whole outputs.
-ghost use Rattle.std.specs.Prelude.{◌<◌, IsErrOf, OnErr, OnOk};
+ghost use Rattle.std.specs.Prelude.{◌<◌, IsErrOf, OnErr, OnOk, length};
 ghost use Rattle.std.specs.Io.KnownBytes.{Appends};
 ghost use Rattle.toast_io.specs.Faults.{NeverFalls, HasRisen};
 ghost use Rattle.toast_io.specs.ReadAll.{TakesByAnswer};
@@ -25,21 +25,35 @@ pub fn read_all<S: Source>(alloc: Global, src: &mut S, limit: usize) -> Result<B
     ensures read_fault { IsErrOf result ReadAllFault.ReadFault → HasRisen (S.faults src.old) (S.faults src.new) }
 {
     let mut piece = vec![in alloc; 0u8; PIECE.min(limit + 1)]?;
-    let mut bytes = Vec::new(alloc);
+    read_by_pieces(alloc, src, &mut piece, limit)
+}
+
+// As `read_all`, by way of this buffer.
+fn read_by_pieces<S: Source>(
+    alloc: Global,
+    src: &mut S,
+    piece: &mut [u8],
+    limit: usize,
+) -> Result<Bytes, ReadAllFault>
+    requires limit { limit < usize.MAX }
+    requires piece { 0 < length piece.old }
+    ensures bytes { TakesByAnswer limit (S.left src.old) (S.left src.new) result }
+    ensures count { NeverFalls (S.faults src.old) (S.faults src.new) }
+    ensures read_fault { IsErrOf result ReadAllFault.ReadFault → HasRisen (S.faults src.old) (S.faults src.new) }
+{
+    let mut bytes = Bytes::new(alloc);
     let mut room = limit;
     loop {
         let most = piece.len().min(room + 1);
-        let count = src
-            .read(&mut piece[..most])
-            .map_err(|_| ReadAllFault::ReadFault)?;
-        if count == 0 {
-            return Ok(Bytes::from_vec(bytes));
+        match src.read(&mut piece[..most]) {
+            Ok(0) => return Ok(bytes),
+            Ok(count) if count > room => return Err(ReadAllFault::TooLong),
+            Ok(count) => {
+                bytes.extend_from_slice(&piece[..count])?;
+                room -= count;
+            }
+            Err(Failed) => return Err(ReadAllFault::ReadFault),
         }
-        if count > room {
-            return Err(ReadAllFault::TooLong);
-        }
-        bytes.extend_from_slice(&piece[..count])?;
-        room -= count;
     }
 }
 
@@ -53,7 +67,8 @@ pub fn write_all<K: Sink>(sink: &mut K, bytes: &[u8]) -> Result<(), Failed>
 {
     let mut at = 0;
     while at < bytes.len() {
-        at += sink.write(&bytes[at..])?;
+        let count = sink.write(&bytes[at..])?;
+        at += count;
     }
     Ok(())
 }

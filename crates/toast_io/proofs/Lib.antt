@@ -1,0 +1,6 @@
+pub mod Counts
+pub mod Parts
+pub mod Taken
+pub mod Told
+mod Answered
+mod Pieces

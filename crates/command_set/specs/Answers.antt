@@ -1,6 +1,5 @@
 -- The plain store's answer to a command: its reply, and the state after it.
-use Rattle.std.specs.Prelude.{ℕ, Bool, true, false, List, [], ◌∷◌, ◌++◌, Option, Some, None, map as mapped, is_some, is_none, not, ◌==◌, ◌&&◌, if◌then◌else◌}
-use Rattle.std.specs.List.{filter, enumerate_from}
+use Rattle.std.specs.Prelude.{ℕ, List, [], ◌∷◌, ◌++◌, Option, Some, None, map as mapped, is_some, if◌then◌else◌}
 use Rattle.std.specs.Option.{unwrap_or}
 use Rattle.std.specs.FinMap as map
 use Rattle.tuple_layout.specs.declared.Storage.{Storage}
@@ -31,14 +30,15 @@ table_of (commands.Delete table key) = Some table
 table_of (commands.Rekey table from to sets) = Some table
 table_of command = None
 
--- the copy that a transaction reads: a repeatable read transaction takes one of the committed rows where it has none
-abbrev pub base_at : Plain → Transaction → Level → Option Rows
-base_at m t levels.Rc = t.base
-base_at m t levels.Rr = Some (unwrap_or t.base m.latest)
+-- a transaction with its copy taken: a repeatable read transaction without one takes a copy of the committed rows, and no place has been changed since
+abbrev pub with_copy : Rows → Transaction → Level → Option Rows → Transaction
+with_copy latest t levels.Rc base = t
+with_copy latest t levels.Rr None = record t { base = Some latest; since = [] }
+with_copy latest t levels.Rr (Some base) = t
 
 -- a transaction that uses a table, with its copy taken
 abbrev pub with_use : Plain → Transaction → ℕ → Transaction
-with_use m t table = record t { used = t.used ++ table ∷ []; base = base_at m t t.level }
+with_use m t table = let copied = with_copy m.latest t t.level t.base in record copied { used = copied.used ++ table ∷ [] }
 
 -- the state once a data command has used its table: an open transaction that is not locked uses it and takes its copy, all else stays
 abbrev pub once_used : Plain → ℕ → Session → Option ℕ → Plain
@@ -54,16 +54,16 @@ abbrev pub with_change : Transaction → Change → Transaction
 with_change t change = record t { changes = t.changes ++ change ∷ [] }
 
 -- what another session is after a commit of these changes: an open transaction with a copy remembers them
-abbrev pub told_of : List Change → Session → Session
-told_of changes Outside = Outside
-told_of changes Failed = Failed
-told_of changes (Open t) = Open (if is_some t.base then record t { since = t.since ++ keys_of changes } else t)
+abbrev pub told_by : List Change → Session → Session
+told_by changes Outside = Outside
+told_by changes Failed = Failed
+told_by changes (Open t) = Open (if is_some t.base then record t { since = t.since ++ keys_of changes } else t)
 
 -- the state after a commit: the changes are made on the committed rows, each other session is told, and the session is outside
 abbrev pub committed : Plain → ℕ → Plain
 committed m s =
     let changes = (transaction_of (session_of m s)).changes in
-    with_session (record m { latest = fold_changes changes m.latest; sessions = mapped (told_of changes) m.sessions }) s Outside
+    with_session (record m { latest = fold_changes changes m.latest; sessions = mapped (told_by changes) m.sessions }) s Outside
 
 -- the state with a session's upkeep added
 abbrev pub with_upkeep : Plain → ℕ → ℕ → Upkeep → Plain
@@ -114,6 +114,6 @@ settled m s command reply =
 -- the plain store's answer to session s: each command at one moment
 abbrev pub answer : List (List Storage) → Plain → ℕ → Command → Answered
 answer schemas m s command =
-    let used = once_used m s (session_of m s) (table_of command) in
-    let reply = reply_of schemas used s command in
-    record { reply = reply; after = settled used s command reply }
+    let in_use = once_used m s (session_of m s) (table_of command) in
+    let reply = reply_of schemas in_use s command in
+    record { reply = reply; after = settled in_use s command reply }

@@ -2,7 +2,6 @@
 use Rattle.std.specs.Prelude.{ℕ, ◌+◌, ◌-◌, Bool, true, false, List, [], ◌∷◌, ◌++◌, Option, Some, None, length, map as mapped, nat_lt, slice_get, slice_set, replicate, ◌==◌, ◌&&◌, ◌||◌, not, is_some, if◌then◌else◌}
 use Rattle.std.specs.List.{filter, list_all, enumerate_from}
 use Rattle.std.specs.Option.{option_map_or, unwrap_or}
-use Rattle.tuple_layout.specs.declared.Storage.{Storage}
 use Rattle.command_set.specs.Plain.{Plain, first_state}
 use Rattle.command_set.specs.Replies.{is_granted}
 use Rattle.command_set.specs.Answers.{answer, with_failure}
@@ -23,7 +22,7 @@ command_at script s n = slice_get (unwrap_or (slice_get script.sessions (s - 1))
 abbrev pub without_upkeep : Plain → ℕ → Plain
 without_upkeep m s = record m { upkeep = filter (λ running. not (running.session == s)) m.upkeep }
 
--- the state after a command has ended early: its upkeep is over, and its open transaction has failed
+-- the state after a command has ended early: its upkeep is over, or its open transaction has failed; no session has both
 abbrev pub cut_short : Plain → ℕ → Plain
 cut_short m s = with_failure (without_upkeep m s) s
 
@@ -121,14 +120,10 @@ lines_cut_short script run e reply =
     then with_reply run.lines e reply
     else run.lines ++ line_of e reply ∷ []
 
--- the schemas of a script's tables
-abbrev pub schemas_of : Script → List (List Storage)
-schemas_of script = script.schemas
-
 -- after the moment of a command
 abbrev pub after_moment : Script → Run → JournalEntry → Command → Run
 after_moment script run e command =
-    let answered = answer (schemas_of script) run.plain e.session command in
+    let answered = answer script.schemas run.plain e.session command in
     told_more run e (Some answered.reply) answered.after (run.lines ++ line_of e answered.reply ∷ [])
 
 -- after one entry of this kind
@@ -148,20 +143,21 @@ run_on script run [] = run
 run_on script run (e ∷ es) = run_on script (after_entry script run e) es
 
 -- what a whole journal tells
-abbrev pub plain_run : Script → List JournalEntry → Run
-plain_run script journal = run_on script (first_run script) journal
+abbrev pub run_of : Script → List JournalEntry → Run
+run_of script journal = run_on script (first_run script) journal
+
+-- the plain store's state at a journal's end
+abbrev pub plain_run : Script → List JournalEntry → Plain
+plain_run script journal = (run_of script journal).plain
 
 -- the printed replies, in the order in which they are printed
 abbrev pub lines : Script → List JournalEntry → List Line
-lines script journal = (plain_run script journal).lines
+lines script journal = (run_of script journal).lines
 
--- whether two kinds are one
-abbrev pub same_kind : Kind → Kind → Bool
-same_kind kinds.Run kinds.Run = true
-same_kind kinds.End kinds.End = true
-same_kind kinds.NoValueId kinds.NoValueId = true
-same_kind kinds.Memory kinds.Memory = true
-same_kind kind other = false
+-- whether an entry tells of a command's moment
+abbrev pub is_run : Kind → Bool
+is_run kinds.Run = true
+is_run kind = false
 
 -- whether a reply says that upkeep has begun
 abbrev pub is_started : Reply → Bool
@@ -170,7 +166,7 @@ is_started reply = false
 
 -- whether upkeep is under way: its moment is the session's last entry and answered that it has begun
 abbrev pub is_under_way : Told → Bool
-is_under_way told = option_map_or (same_kind kinds.Run) told.last false && option_map_or is_started told.reply false
+is_under_way told = option_map_or is_run told.last false && option_map_or is_started told.reply false
 
 -- whether an entry of this kind may come second for a command whose moment gave this reply: upkeep that has begun ends; a granted write of values may be refused an id; want of memory may end any of these
 abbrev pub may_come_second : Command → Reply → Kind → Bool
@@ -192,7 +188,7 @@ may_follow script run e =
     let command_may = λ (may : Command → Bool). option_map_or may (command_at script e.session e.number) false in
     nat_lt 0 e.session && (
     ((e.number == told.begun + 1) && not (is_under_way told) && command_may (λ command. may_come_first command e.kind))
-    || ((e.number == told.begun) && option_map_or (same_kind kinds.Run) told.last false
+    || ((e.number == told.begun) && option_map_or is_run told.last false
     && command_may (λ command. option_map_or (λ reply. may_come_second command reply e.kind) told.reply false)))
 
 -- whether entries may follow what a journal tells, one after another
@@ -212,6 +208,6 @@ has_ended told commands = (told.begun == commands) && not (is_under_way told)
 abbrev pub all_ended : List Told → List (List Command) → Bool
 all_ended told sessions = list_all (λ (n, session). has_ended (unwrap_or (slice_get told n) untold) (length session)) (enumerate_from 0 sessions)
 
--- whether a journal is complete for a script: every command has its entries
+-- whether a legal journal is complete for its script: every command has its entries
 abbrev pub is_complete : Script → List JournalEntry → Bool
-is_complete script journal = all_ended (plain_run script journal).told script.sessions
+is_complete script journal = all_ended (run_of script journal).told script.sessions

@@ -27,14 +27,20 @@ pub record Transaction : Type 0 where
 
 -- a session
 pub data Session : Type 0 where
+  -- in no transaction
   Outside : Session
+  -- in a failed transaction, which has ended inside
   Failed : Session
+  -- in an open transaction
   Open : Transaction → Session
 
 -- the kinds of upkeep of a table (PostgreSQL, "Routine Vacuuming"; VACUUM, its option FULL)
 pub data Upkeep : Type 0 where
+  -- vacuum of the rows
   Main : Upkeep
+  -- vacuum of the values stored out of line
   Toast : Upkeep
+  -- the table is written anew
   Rewrite : Upkeep
 
 -- upkeep that runs: whose, of which table, of which kind
@@ -78,7 +84,7 @@ row_at rows p = unwrap_or (map.get rows p) []
 abbrev pub value_at : Row → ℕ → Option (List ℕ)
 value_at row column = unwrap_or (slice_get row (column - 1)) None
 
--- the value that was set last for a column among these, if one was
+-- the value that is set for a column among these, if one is; no column is set twice
 abbrev pub value_set : List Set → ℕ → Option (Option (List ℕ))
 value_set [] column = None
 value_set (s ∷ sets) column = if s.column == column then Some s.value else value_set sets column

@@ -1,15 +1,15 @@
 -- What each command answers: the first of its replies whose test holds.
-use Rattle.std.specs.Prelude.{ℕ, ℤ, pos, negsuc, ◌-◌, ◌+◌, Bool, true, false, List, [], ◌∷◌, ◌++◌, Option, Some, None, slice_get, is_some, is_none, ◌==◌, ◌&&◌, ◌||◌, not, nat_lt, if◌then◌else◌}
+use Rattle.std.specs.Prelude.{ℕ, ℤ, pos, negsuc, ◌-◌, Bool, true, false, List, [], ◌∷◌, ◌++◌, Option, Some, None, slice_get, is_some, is_none, ◌==◌, ◌&&◌, ◌||◌, not, nat_lt}
 use Rattle.std.specs.List.{list_any, enumerate_from, find}
-use Rattle.std.specs.Option.{option_map, option_map_or, unwrap_or}
+use Rattle.std.specs.Option.{option_map, unwrap_or}
 use Rattle.std.specs.FinMap as map
 use Rattle.tuple_layout.specs.declared.Place.{Place}
 use Rattle.tuple_layout.specs.declared.Storage.{Storage}
 use Rattle.tuple_layout.specs.Places.{Row, Rows}
-use Rattle.tuple_layout.specs.Sizes.{all_out_size}
+use Rattle.tuple_layout.specs.Sizes.{all_out_size, largest_tuple}
 use Rattle.tuple_layout.specs.Slices.{slice}
 use Rattle.command_set.specs.Changes.{place, keys_of, is_named}
-use Rattle.command_set.specs.Plain.{Plain, Transaction, Session, Outside, Failed, Open, Upkeep, Main, Toast, Rewrite, Running, session_of, view_of, now_of, row_at, value_at, row_with}
+use Rattle.command_set.specs.Plain.{Plain, Transaction, Session, Outside, Failed, Open, Upkeep, Main, Toast, Rewrite, session_of, view_of, now_of, row_at, value_at, row_with}
 use Rattle.command_set.specs.declared.Command.{Command}
 use Rattle.command_set.specs.declared.Command.TheVariants as commands
 use Rattle.command_set.specs.declared.Level.{Level}
@@ -40,9 +40,9 @@ has_changed (Open t) p = is_named (keys_of t.changes) p
 
 -- whether the open transaction of a session has used a table
 abbrev pub has_used : Session → ℕ → Bool
-has_used Outside t = false
-has_used Failed t = false
-has_used (Open transaction) t = list_any (λ used. used == t) transaction.used
+has_used Outside table = false
+has_used Failed table = false
+has_used (Open t) table = list_any (λ used. used == table) t.used
 
 -- whether one kind of upkeep of a table waits for the other to end: two of the same kind, and a rewrite and any
 abbrev pub conflicts : Upkeep → Upkeep → Bool
@@ -98,20 +98,25 @@ is_failed Outside = false
 is_failed Failed = true
 is_failed (Open t) = false
 
--- the refusals, each where its test holds; p is the place of the command's key
+-- the refusals follow, each where its test holds; p is the place of the command's key
 
+-- the session is in no transaction
 abbrev pub outside : Plain → ℕ → Option Reply
 outside m s = answers_if (is_outside (session_of m s)) replies.Outside
 
+-- the session is in a transaction, open or failed
 abbrev pub inside : Plain → ℕ → Option Reply
 inside m s = answers_if (not (is_outside (session_of m s))) replies.Inside
 
+-- its transaction has failed
 abbrev pub failed : Plain → ℕ → Option Reply
 failed m s = answers_if (is_failed (session_of m s)) replies.Failed
 
+-- the transaction that ends has failed
 abbrev pub rolled_back : Plain → ℕ → Option Reply
 rolled_back m s = answers_if (is_failed (session_of m s)) replies.RolledBack
 
+-- a session is in the way
 abbrev pub locked : Option ℕ → Option Reply
 locked = option_map replies.Locked
 
@@ -137,15 +142,18 @@ taken m t p = answers_if (is_some (map.get (now_of m t) p) || is_some (map.get (
 
 -- the tuple is too large with every column out of line that may be
 abbrev pub too_big : List Storage → Row → Option Reply
-too_big schema row = let n = all_out_size schema row in answers_if (nat_lt 8160 n) (replies.TooBig n)
+too_big schema row = let n = all_out_size schema row in answers_if (nat_lt largest_tuple n) (replies.TooBig n)
 
+-- the offset is negative
 abbrev pub bad_offset : ℤ → Option Reply
 bad_offset (pos offset) = None
 bad_offset (negsuc n) = Some replies.BadOffset
 
+-- no handle of this name is open
 abbrev pub no_handle : Transaction → ℕ → Option Reply
 no_handle t handle = answers_if (is_none (map.get t.handles handle)) replies.NoHandle
 
+-- a handle of this name is open
 abbrev pub handle_there : Transaction → ℕ → Option Reply
 handle_there t handle = answers_if (is_some (map.get t.handles handle)) replies.HandleThere
 

@@ -3,8 +3,7 @@
 #![tactic(auto)]
 
 use list_facts::ListOf;
-use tuple_layout::Schema;
-pub use tuple_layout::{Bytes, Row};
+pub use tuple_layout::{Bytes, Row, SchemaList};
 
 /// How a transaction reads (PostgreSQL, "Transaction Isolation").
 #[derive(Clone, Copy, Debug, PartialEq, Eq)]
@@ -25,7 +24,8 @@ pub struct Set {
 /// The columns that an update sets.
 pub type SetList = ListOf<Set>;
 
-/// A session's command. Tables and columns count from 1; an offset and a length are in bytes.
+/// A session's command. Tables and columns count from 1, handles are named by 1 to 64, and an offset and a
+/// length are in bytes.
 #[derive(Debug, Drop, PartialEq)]
 pub enum Command {
     Begin {
@@ -139,12 +139,15 @@ pub enum Reply {
 /// The commands of one session, in order.
 pub type CommandList = ListOf<Command>;
 
+/// The commands of each session, the first being session 1's.
+pub type SessionList = ListOf<CommandList>;
+
 /// One part of a passage of the schedule: a session's turns.
 #[derive(Clone, Copy, Debug, PartialEq, Eq)]
 pub enum Item {
     /// One turn.
     Once { session: u16 },
-    /// So many turns.
+    /// So many turns, from 1 to 100,000.
     Times { session: u16, count: u32 },
     /// Turns until a command has ended, or the session cannot go on.
     Whole { session: u16 },
@@ -153,21 +156,26 @@ pub enum Item {
 /// Items, in order.
 pub type ItemList = ListOf<Item>;
 
-/// Items that are gone through so many times.
+/// Items that are gone through so many times, from 1 to 100,000.
 #[derive(Debug, Drop, PartialEq)]
 pub struct Passage {
     pub count: u32,
     pub items: ItemList,
 }
 
+/// The passages of a schedule, in order.
+pub type PassageList = ListOf<Passage>;
+
 /// A script: the range of value ids, the tables, each session's commands, and the schedule.
 #[derive(Debug, Drop)]
 pub struct Script {
+    /// The least value id, from 16,384 on.
     pub low: u32,
+    /// The greatest value id, from `low` on.
     pub high: u32,
-    pub schemas: ListOf<Schema>,
-    pub sessions: ListOf<CommandList>,
-    pub schedule: ListOf<Passage>,
+    pub schemas: SchemaList,
+    pub sessions: SessionList,
+    pub schedule: PassageList,
 }
 
 /// What a journal's entry tells of a command.

@@ -1,8 +1,8 @@
 -- What the plain store answers at each command's moment, in terms of what the core holds.
-use Rattle.std.proofs.Common.{◌≡◌, ℕ, ℤ, pos, List, [], ◌∷◌, ◌++◌, Option, Some, None, Bool, true, false, length, refl, sym, ap, subst, ◌∙◌, arith, cond}
+use Rattle.std.proofs.Common.{◌≡◌, ℕ, ℤ, List, [], ◌∷◌, ◌++◌, Option, Some, None, Bool, true, false, length, refl, sym, ap, subst, ◌∙◌, arith, cond}
 use Rattle.std.specs.Prelude.{◌+◌, is_some, reverse, nat_lt, nat_le}
 use Rattle.std.proofs.lemmas.Bool.Decides.{nat_tests}
-use Rattle.tuple_layout.specs.Sizes.{all_out_size, column_end, header_end, is_missing, width}
+use Rattle.tuple_layout.specs.Sizes.{all_out_size, column_end, header_size, is_missing, least_out, largest_tuple, width}
 use Rattle.std.specs.List.{list_any}
 use Rattle.tuple_layout.specs.declared.Storage.TheVariants.{External}
 use Rattle.std.specs.List.{find}
@@ -15,7 +15,6 @@ use Rattle.std.proofs.Math.Seq.{drop-length, take-length}
 use Rattle.std.proofs.lemmas.Grind.{reverse_onto}
 use Rattle.std.proofs.lemmas.List.Folds.{find-append}
 use Rattle.tuple_layout.specs.Places.{Row, Rows, get-put, place_cmp}
-use Rattle.tuple_layout.specs.declared.Place.{Place}
 use Rattle.command_set.specs.Changes.{Change, Insert, fold_changes, place, made}
 use Rattle.command_set.specs.Plain.{Plain, Transaction, view_of, now_of}
 use Rattle.command_set.specs.Plain as plain
@@ -44,21 +43,23 @@ AnsweredAt rows session command new reply = (reply ≡ (one_table (state_with (c
 
 -- an answer in each state that a core stands for is one in each state with its committed rows and a session like its own
 answers_by : (old new : CoreState) (command : Command) (reply : Reply) → ((session : plain.Session) → IsSession old.session old.added session → AnsweredAt old.rows session command new reply) → Answers old command new reply
-answers_by old new command reply each = record { in_each = λ m stands.
-    let at = state_is m (committed_rows old.rows) stands.session.0 stands.latest stands.session.1 stands.upkeep in
-    subst (λ (n : Plain). (reply ≡ (one_table n command).reply) × Stands new (one_table n command).after) at (each stands.session.0 stands.session.2) }
+answers_by old new command reply each = record {
+  in_each = λ m stands.
+      let at = state_is m (committed_rows old.rows) stands.session.0 stands.latest stands.session.1 stands.upkeep in
+      subst (λ (n : Plain). (reply ≡ (one_table n command).reply) × Stands new (one_table n command).after) at (each stands.session.0 stands.session.2);
+}
 
 -- a core whose session is outside
 pub outside_answers : (rows added : List KeyedRow) (new : CoreState) (command : Command) (reply : Reply) → (added ≡ [] → AnsweredAt rows plain.Outside command new reply) → Answers (record { rows = rows; added = added; session = sessions.Outside }) command new reply
 outside_answers rows added new command reply each =
     answers_by (record { rows = rows; added = added; session = sessions.Outside }) new command reply
-      (λ session is. subst (λ (s : plain.Session). AnsweredAt rows s command new reply) (sym is.1) (each is.0))
+    (λ session is. subst (λ (s : plain.Session). AnsweredAt rows s command new reply) (sym is.1) (each is.0))
 
 -- a core whose session has failed
 pub failed_answers : (rows added : List KeyedRow) (new : CoreState) (command : Command) (reply : Reply) → (added ≡ [] → AnsweredAt rows plain.Failed command new reply) → Answers (record { rows = rows; added = added; session = sessions.Failed }) command new reply
 failed_answers rows added new command reply each =
     answers_by (record { rows = rows; added = added; session = sessions.Failed }) new command reply
-      (λ session is. subst (λ (s : plain.Session). AnsweredAt rows s command new reply) (sym is.1) (each is.0))
+    (λ session is. subst (λ (s : plain.Session). AnsweredAt rows s command new reply) (sym is.1) (each is.0))
 
 -- a read committed transaction without a copy
 abbrev pub with_changes : Transaction → List Change → Transaction
@@ -71,8 +72,8 @@ transaction_is t made is = λ i. record { level = sym is.level i; base = sym is.
 pub open_answers : (rows added : List KeyedRow) (new : CoreState) (command : Command) (reply : Reply) → ((t : Transaction) → AnsweredAt rows (plain.Open (with_changes t (insertions added))) command new reply) → Answers (record { rows = rows; added = added; session = sessions.Open }) command new reply
 open_answers rows added new command reply each =
     answers_by (record { rows = rows; added = added; session = sessions.Open }) new command reply
-      (λ session is. subst (λ (s : plain.Session). AnsweredAt rows s command new reply)
-        (ap plain.Open (transaction_is is.0 (insertions added) is.2) ∙ sym is.1) (each is.0))
+    (λ session is. subst (λ (s : plain.Session). AnsweredAt rows s command new reply)
+    (ap plain.Open (transaction_is is.0 (insertions added) is.2) ∙ sym is.1) (each is.0))
 
 -- the core stands for a state with its committed rows whose session is its own
 pub stands_at : (core : CoreState) (latest : Rows) (session : plain.Session) → latest ≡ committed_rows core.rows → IsSession core.session core.added session → Stands core (state_with latest session)
@@ -83,9 +84,11 @@ as_transaction t made = record { level = refl; base = refl; changes = refl }
 
 -- begin outside a transaction opens one
 pub begin_opens : (rows added : List KeyedRow) → Answers (record { rows = rows; added = added; session = sessions.Outside }) (commands.Begin Rc) (record { rows = rows; added = added; session = sessions.Open }) replies.Okay
-begin_opens rows added = outside_answers rows added (record { rows = rows; added = added; session = sessions.Open }) (commands.Begin Rc) replies.Okay (λ none.
-    (refl, stands_at (record { rows = rows; added = added; session = sessions.Open }) _ _ refl
-      (new_transaction Rc, refl, record { level = refl; base = refl; changes = ap insertions (sym none) })))
+begin_opens rows added = outside_answers rows added (record { rows = rows; added = added; session = sessions.Open }) (commands.Begin Rc) replies.Okay (λ none. (
+  refl,
+  stands_at (record { rows = rows; added = added; session = sessions.Open }) _ _ refl
+      (new_transaction Rc, refl, record { level = refl; base = refl; changes = ap insertions (sym none) }),
+))
 
 -- begin in a transaction is refused
 pub begin_open_refused : (rows added : List KeyedRow) → Answers (record { rows = rows; added = added; session = sessions.Open }) (commands.Begin Rc) (record { rows = rows; added = added; session = sessions.Open }) replies.Inside
@@ -123,9 +126,9 @@ get-insertions : (rows : List KeyedRow) (m : Rows) (key : ℤ) → map.get (fold
 get-insertions [] m key = refl
 get-insertions (keyed ∷ rows) m key =
     get-insertions rows (map.insert m (place 1 keyed.key) keyed.row) key
-      ∙ ap (option_or (row_of rows key)) (get-put m (place 1 keyed.key) keyed.row (place 1 key) ∙ put_first (int_eq key keyed.key) keyed (map.get m (place 1 key)))
-      ∙ option_or_twice (row_of rows key) (option_map (λ (k : KeyedRow). k.row) (find (λ (k : KeyedRow). int_eq key k.key) (keyed ∷ []))) (map.get m (place 1 key))
-      ∙ ap (λ (o : Option Row). option_or o (map.get m (place 1 key))) (sym (row_of-first keyed rows key))
+    ∙ ap (option_or (row_of rows key)) (get-put m (place 1 keyed.key) keyed.row (place 1 key) ∙ put_first (int_eq key keyed.key) keyed (map.get m (place 1 key)))
+    ∙ option_or_twice (row_of rows key) (option_map (λ (k : KeyedRow). k.row) (find (λ (k : KeyedRow). int_eq key k.key) (keyed ∷ []))) (map.get m (place 1 key))
+    ∙ ap (λ (o : Option Row). option_or o (map.get m (place 1 key))) (sym (row_of-first keyed rows key))
 
 -- what an open transaction sees at a key of table 1
 abbrev pub seen : List KeyedRow → List KeyedRow → ℤ → Option Row
@@ -139,9 +142,9 @@ none_past (Some x) = refl
 pub seen_is : (rows added : List KeyedRow) (key : ℤ) → seen rows added key ≡ row_of (rows ++ added) key
 seen_is rows added key =
     ap (λ (m : Rows). map.get m (place 1 key)) (insertions_in_turn rows added map.empty)
-      ∙ get-insertions (rows ++ added) map.empty key
-      ∙ ap (option_or (row_of (rows ++ added) key)) (map.get-empty place_cmp (place 1 key))
-      ∙ none_past (row_of (rows ++ added) key)
+    ∙ get-insertions (rows ++ added) map.empty key
+    ∙ ap (option_or (row_of (rows ++ added) key)) (map.get-empty place_cmp (place 1 key))
+    ∙ none_past (row_of (rows ++ added) key)
 
 -- the transaction once it has used table 1
 abbrev pub used_by : Transaction → List KeyedRow → Transaction
@@ -178,15 +181,15 @@ insert_taken rows added key row found = open_answers rows added (record { rows =
     rw is (refl, stands_at (record { rows = rows; added = []; session = sessions.Failed }) (committed_rows rows) plain.Failed refl (refl, refl)))
 
 -- one value that may go out, or is too small to go out
-small_value : (bytes : List ℕ) (b : Bool) → nat_le 21 (length bytes) ≡ b → nat_lt 8160 (header_end 2 (list_any is_missing (width (Some bytes) b ∷ [])) + column_end External 8 (width (Some bytes) b)) ≡ false
+small_value : (bytes : List ℕ) (b : Bool) → nat_le least_out (length bytes) ≡ b → nat_lt largest_tuple (header_size 2 (list_any is_missing (width (Some bytes) b ∷ [])) + column_end External 8 (width (Some bytes) b)) ≡ false
 small_value bytes true e = refl
 small_value bytes false e = grind (arith, nat_tests)
 
 -- a row of one EXTERNAL column is never too big
-never_too_big : (row : Row) → length row ≡ 1 → nat_lt 8160 (all_out_size (External ∷ []) row) ≡ false
+never_too_big : (row : Row) → length row ≡ 1 → nat_lt largest_tuple (all_out_size (External ∷ []) row) ≡ false
 never_too_big [] one = absurd (omega (arith, one))
 never_too_big (None ∷ []) one = refl
-never_too_big (Some bytes ∷ []) one = small_value bytes (nat_le 21 (length bytes)) refl
+never_too_big (Some bytes ∷ []) one = small_value bytes (nat_le least_out (length bytes)) refl
 never_too_big (value ∷ other ∷ rest) one = absurd (omega (arith, one))
 
 insertions_push : (added : List KeyedRow) (keyed : KeyedRow) → insertions (added ++ keyed ∷ []) ≡ insertions added ++ Insert 1 keyed.key keyed.row ∷ []
@@ -207,14 +210,14 @@ insert_adds rows added key row one missing =
 pub answers_from : (rows added : List KeyedRow) (session at : Session) (old new : CoreState) (command : Command) (reply : Reply) → record { rows = rows; added = added; session = session } ≡ old → session ≡ at → Answers (record { rows = rows; added = added; session = at }) command new reply → Answers old command new reply
 answers_from rows added session at old new command reply is at_is h =
     subst (λ (o : CoreState). Answers o command new reply) is
-      (subst (λ (s : Session). Answers (record { rows = rows; added = added; session = s }) command new reply) (sym at_is) h)
+    (subst (λ (s : Session). Answers (record { rows = rows; added = added; session = s }) command new reply) (sym at_is) h)
 
 -- the same where what the core holds after the command is known by its fields
 pub answers_into : (old : CoreState) (rows rows' added added' : List KeyedRow) (session session' : Session) (command : Command) (reply : Reply) → rows' ≡ rows → added' ≡ added → session' ≡ session → Answers old command (record { rows = rows'; added = added'; session = session' }) reply → Answers old command (record { rows = rows; added = added; session = session }) reply
 answers_into old rows rows' added added' session session' command reply r a s h =
     subst (λ (xs : List KeyedRow). Answers old command (record { rows = xs; added = added; session = session }) reply) r
-      (subst (λ (xs : List KeyedRow). Answers old command (record { rows = rows'; added = xs; session = session }) reply) a
-        (subst (λ (at : Session). Answers old command (record { rows = rows'; added = added'; session = at }) reply) s h))
+    (subst (λ (xs : List KeyedRow). Answers old command (record { rows = rows'; added = xs; session = session }) reply) a
+    (subst (λ (at : Session). Answers old command (record { rows = rows'; added = added'; session = at }) reply) s h))
 
 -- what was found at a key, in the committed rows and those added since
 pub found_at : (held rows : List KeyedRow) (committed : ℕ) (key passed : ℤ) (found : Option Row) → rows ≡ held → passed ≡ key → found ≡ row_of rows passed → row_of (take committed held ++ drop committed held) key ≡ found
@@ -258,7 +261,7 @@ drop_again held cut committed e = sym (drop_take committed held) ∙ ap (drop co
 pub answers_kept : (rows added : List KeyedRow) (session at : Session) (old : CoreState) (command : Command) (reply : Reply) → record { rows = rows; added = added; session = session } ≡ old → session ≡ at → Answers (record { rows = rows; added = added; session = at }) command (record { rows = rows; added = added; session = at }) reply → Answers old command old reply
 answers_kept rows added session at old command reply is at_is h =
     subst (λ (o : CoreState). Answers o command o reply) is
-      (subst (λ (s : Session). Answers (record { rows = rows; added = added; session = s }) command (record { rows = rows; added = added; session = s }) reply) (sym at_is) h)
+    (subst (λ (s : Session). Answers (record { rows = rows; added = added; session = s }) command (record { rows = rows; added = added; session = s }) reply) (sym at_is) h)
 
 -- a found row, where its copy is answered
 pub found_copy : (rows : List KeyedRow) (key : ℤ) (row copy : Row) → row_of rows key ≡ Some row → copy ≡ row → row_of rows key ≡ Some copy
@@ -284,9 +287,9 @@ had_at held rows committed key passed had rows_is key_is is = ap is_some (found_
 pub added_at : (held grown : List KeyedRow) (committed : ℕ) (key : ℤ) (row copy : Row) (keyed : KeyedRow) → keyed ≡ record { key = key; row = copy } → copy ≡ row → grown ≡ held ++ keyed ∷ [] → committed ≤ length held → drop committed held ++ (record { key = key; row = row }) ∷ [] ≡ drop committed grown
 added_at held grown committed key row copy keyed keyed_is copy_is is h =
     ap (λ (r : Row). drop committed held ++ (record { key = key; row = r }) ∷ []) (sym copy_is)
-      ∙ ap (λ (k : KeyedRow). drop committed held ++ k ∷ []) (sym keyed_is)
-      ∙ drop_grown held keyed committed h
-      ∙ ap (drop committed) (sym is)
+    ∙ ap (λ (k : KeyedRow). drop committed held ++ k ∷ []) (sym keyed_is)
+    ∙ drop_grown held keyed committed h
+    ∙ ap (drop committed) (sym is)
 
 -- the committed rows, once a row is added
 pub kept_at : (held grown : List KeyedRow) (committed : ℕ) (keyed : KeyedRow) → grown ≡ held ++ keyed ∷ [] → committed ≤ length held → take committed held ≡ take committed grown

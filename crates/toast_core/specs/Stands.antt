@@ -1,7 +1,7 @@
 -- How a core with one session stands for a state of the plain store.
-use Rattle.std.specs.Prelude.{◌≡◌, ℕ, ℤ, List, [], ◌∷◌, Option, Some, None, Bool, true, false, length, map as mapped, Result, Ok, Err}
+use Rattle.std.specs.Prelude.{◌≡◌, List, [], ◌∷◌, None, length}
 use Rattle.std.specs.FinMap as map
-use Rattle.tuple_layout.specs.Places.{Row, Rows}
+use Rattle.tuple_layout.specs.Places.{Rows}
 use Rattle.tuple_layout.specs.declared.Storage.TheVariants.{External}
 use Rattle.command_set.specs.Changes.{Change, Insert, fold_changes}
 use Rattle.command_set.specs.Plain.{Plain, Transaction}

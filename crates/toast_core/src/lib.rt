@@ -53,7 +53,10 @@ impl Model for Core {
 fn last_row<'a>(rows: &'a [KeyedRow], key: &i64) -> Option<&'a Row>
     ensures { option_copied result ≡ row_of rows.now key.now }
 {
-    rows.iter().rev().find(|keyed| *key == keyed.key).map(|keyed| &keyed.row)
+    rows.iter()
+        .rev()
+        .find(|keyed| *key == keyed.key)
+        .map(|keyed| &keyed.row)
 }
 
 fn has_key(rows: &[KeyedRow], key: &i64) -> bool

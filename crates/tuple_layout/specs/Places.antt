@@ -1,13 +1,12 @@
 -- Rows, their places, and finite maps from places to rows.
-use Rattle.std.specs.Prelude.{◌≡◌, ℕ, ℤ, Bool, List, Option, Some, None, cond}
+use Rattle.std.specs.Prelude.{◌≡◌, ℕ, Bool, List, Option, Some, None, cond}
 use Rattle.std.specs.declared.cmp.Ordering.{Ordering}
 use Rattle.std.specs.Ordering.{nat_cmp, int_cmp, eq_by_cmp, on, then_cmp}
 use Rattle.std.specs.Cmp.{IsTotalOrder, then_total, on_total, nat_cmp_total, int_cmp_total}
 use Rattle.std.specs.FinMap as map
-use Rattle.std.specs.FinSet as set
 use Rattle.tuple_layout.specs.declared.Place.{Place}
 
--- a row: an optional byte string for each column, none being null
+-- a row: for each column a byte string, or null, which is `None`
 abbrev pub Row : Type 0
 Row = List (Option (List ℕ))
 
@@ -26,10 +25,6 @@ same_place = eq_by_cmp place_cmp
 -- rows by their places
 abbrev pub Rows : Type 0
 Rows = map.FinMap place_cmp Row
-
--- a set of places
-abbrev pub PlaceSet : Type 0
-PlaceSet = set.FinSet place_cmp
 
 -- a row that is put is at its place, and every other place has what it had
 pub get-put : (rows : Rows) (at : Place) (row : Row) (q : Place) → map.get (map.insert rows at row) q ≡ cond (same_place q at) (Some row) (map.get rows q)

@@ -1,5 +1,5 @@
 -- How many columns a table may have.
-use Rattle.std.specs.Prelude.{ℕ, ◌≤◌, ◌≡◌, List, length, ⊤}
+use Rattle.std.specs.Prelude.{ℕ, ◌≤◌}
 
 -- a table has 1 to 8 byte-string columns beside its key
 abbrev pub HasColumns : ℕ → Type 0

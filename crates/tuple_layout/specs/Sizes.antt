@@ -7,6 +7,22 @@ use Rattle.tuple_layout.specs.declared.Storage.{Storage}
 use Rattle.tuple_layout.specs.declared.Storage.TheVariants.{Plain, External}
 use Rattle.tuple_layout.specs.Places.{Row}
 
+-- what a pointer takes, in bytes
+abbrev pub pointer_size : ℕ
+pointer_size = 18
+
+-- the longest value that has a header of one byte
+abbrev pub longest_short : ℕ
+longest_short = 126
+
+-- the shortest value that may be stored out of line
+abbrev pub least_out : ℕ
+least_out = 21
+
+-- the largest tuple that fits on a page
+abbrev pub largest_tuple : ℕ
+largest_tuple = 8160
+
 -- how the value of a column stands in a tuple
 pub data Width : Type 0 where
   -- a null, which takes no data
@@ -36,16 +52,16 @@ is_missing Outside = false
 abbrev pub aligned : ℕ → ℕ
 aligned at = (at + 3) / 4 * 4
 
--- where an inline value of n bytes ends: one of a column that is not PLAIN with at most 126 bytes has a header of one byte and is not aligned, any other has one of 4 bytes
+-- where an inline value of n bytes ends: one of a column that is not PLAIN that is short has a header of one byte and is not aligned, any other has one of 4 bytes
 abbrev pub inline_end : Storage → ℕ → ℕ → ℕ
 inline_end Plain at n = aligned at + 4 + n
-inline_end External at n = if nat_le n 126 then at + 1 + n else aligned at + 4 + n
+inline_end External at n = if nat_le n longest_short then at + 1 + n else aligned at + 4 + n
 
--- where a column's data end, if the data before them end at this place; a pointer takes 18 bytes and is not aligned
+-- where a column's data end, if the data before them end at this place; a pointer is not aligned
 abbrev pub column_end : Storage → ℕ → Width → ℕ
 column_end storage at Missing = at
 column_end storage at (Within n) = inline_end storage at n
-column_end storage at Outside = at + 18
+column_end storage at Outside = at + pointer_size
 
 -- where the data end after these columns, if the data before them end at this place
 abbrev pub data_end_from : ℕ → List Storage → List Width → ℕ
@@ -53,19 +69,19 @@ data_end_from at [] ws = at
 data_end_from at (storage ∷ storages) [] = at
 data_end_from at (storage ∷ storages) (w ∷ ws) = data_end_from (column_end storage at w) storages ws
 
--- how long the header is of a tuple with so many columns, the key counted: 23 bytes, where there is a null a bit for each column, rounded up to 8
-abbrev pub header_end : ℕ → Bool → ℕ
-header_end columns has_null = (23 + (if has_null then (columns + 7) / 8 else 0) + 7) / 8 * 8
+-- the size of the header of a tuple with so many columns, the key counted: 23 bytes, where there is a null a bit for each column, rounded up to 8
+abbrev pub header_size : ℕ → Bool → ℕ
+header_size columns has_null = (23 + (if has_null then (columns + 7) / 8 else 0) + 7) / 8 * 8
 
 -- the size of a tuple: the header, the key's 8 bytes, and the data of the columns in order
 abbrev pub size : List Storage → List Width → ℕ
-size schema ws = header_end (length schema + 1) (list_any is_missing ws) + data_end_from 8 schema ws
+size schema ws = header_size (length schema + 1) (list_any is_missing ws) + data_end_from 8 schema ws
 
--- whether a value may be stored out of line: its column is EXTERNAL and it has at least 21 bytes
+-- whether a value may be stored out of line: its column is EXTERNAL and it is long enough
 abbrev pub is_eligible : Storage → Option (List ℕ) → Bool
 is_eligible Plain value = false
 is_eligible External None = false
-is_eligible External (Some bytes) = nat_le 21 (length bytes)
+is_eligible External (Some bytes) = nat_le least_out (length bytes)
 
 -- whether the value of a column, from 1, may be stored out of line
 abbrev pub is_eligible_column : List Storage → Row → ℕ → Bool

@@ -34,6 +34,9 @@ pub struct Schema {
     storages: ListOf<Storage>,
 }
 
+/// The schemas of tables, the first being table 1's.
+pub type SchemaList = ListOf<Schema>;
+
 impl Model for Schema {
     ghost use Rattle.std.specs.Prelude.{List, length};
     ghost use Rattle.tuple_layout.specs.Schemas.{HasColumns};

@@ -1,4 +1,4 @@
-use Rattle.std.proofs.Common.{refl, take, drop}
+use Rattle.std.proofs.Common.{take, drop}
 use Rattle.toast_core.proofs.Moments.{begin_opens, answers_from}
 use Rattle.toast_core.proofs.Core.begin.Goals as goal
 

@@ -7,11 +7,11 @@ returns-then-has_key-clause-answer c =
     let held = c.self.inside in
     let found = had_at held.rows.items _ held.committed c.args.key.now _ _ c.deref.ensures.value refl c.has_key.ensures ∙ c.if-has_key.true in
     answers_into _ _ _ _ [] _ _ _ _ (take_again _ _ _ c.truncate.ensures.items) (drop_again _ _ _ c.truncate.ensures.items) refl
-      (answers_from _ _ _ _ _ _ _ _ c.self.view_is c.in-Open.is (insert_taken (take held.committed held.rows.items) (drop held.committed held.rows.items) c.args.key.now c.args.row.now found))
+    (answers_from _ _ _ _ _ _ _ _ c.self.view_is c.in-Open.is (insert_taken (take held.committed held.rows.items) (drop held.committed held.rows.items) c.args.key.now c.args.row.now found))
 
 pub returns-in_ok-push-in-Open-clause-answer : goal.returns-in_ok-push-in-Open-clause-answer
 returns-in_ok-push-in-Open-clause-answer c =
     let held = c.self.inside in
     let missing = had_at held.rows.items _ held.committed c.args.key.now _ _ c.deref.ensures.value refl c.has_key.ensures ∙ c.if-has_key.false in
     answers_into _ _ _ _ _ _ _ _ _ (kept_at _ _ _ _ c.in_ok-push-in-Open.ensures.items c.self.invariant) (added_at _ _ _ _ _ _ _ c.keyed_row.ensures c.in_ok-row-in-Open.ensures c.in_ok-push-in-Open.ensures.items c.self.invariant) (sym c.in-Open.is)
-      (answers_from _ _ _ _ _ _ _ _ c.self.view_is c.in-Open.is (insert_adds (take held.committed held.rows.items) (drop held.committed held.rows.items) c.args.key.now c.args.row.now c.requires missing))
+    (answers_from _ _ _ _ _ _ _ _ c.self.view_is c.in-Open.is (insert_adds (take held.committed held.rows.items) (drop held.committed held.rows.items) c.args.key.now c.args.row.now c.requires missing))

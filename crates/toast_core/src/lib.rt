@@ -187,3 +187,50 @@ impl Core {
         }
     }
 }
+
+#[cfg(test)]
+mod tests {
+    use super::Core;
+    use command_set::{Command, Level, Reply, Row};
+    use list_facts::ListOf;
+    use std::alloc::{AllocError, Global};
+
+    fn one_value(alloc: Global, byte: u8) -> Result<Row, AllocError>
+        ensures { IfOk result (λ row. length row ≡ 1) }
+    {
+        let mut row = ListOf::new(alloc);
+        row.push(Some(ListOf::from_slice(alloc, &[byte])?))?;
+        Ok(row)
+    }
+
+    #[test]
+    fn a_second_insert_of_a_key_fails_the_transaction(rt: HostRuntime) -> Result<(), AllocError> {
+        let alloc = rt.alloc();
+        let mut core = Core::single(alloc);
+        let first = Command::Insert {
+            table: 1,
+            key: 1,
+            row: one_value(alloc, 3)?,
+        };
+        let second = Command::Insert {
+            table: 1,
+            key: 1,
+            row: one_value(alloc, 0)?,
+        };
+        let get = Command::Get { table: 1, key: 1 };
+        assert!(rt; core.execute(&Command::Begin { level: Level::Rc })? == Reply::Okay);
+        assert!(rt; core.execute(&first)? == Reply::Okay);
+        assert!(rt;
+            core.execute(&get)?
+                == Reply::Row {
+                    key: 1,
+                    row: one_value(alloc, 3)?
+                }
+        );
+        assert!(rt; core.execute(&second)? == Reply::Taken);
+        assert!(rt; core.execute(&get)? == Reply::Failed);
+        assert!(rt; core.execute(&Command::Commit)? == Reply::RolledBack);
+        assert!(rt; core.execute(&get)? == Reply::Outside);
+        Ok(())
+    }
+}

@@ -1,3 +1,4 @@
 pub mod Bytes
+pub mod Front
 pub mod Found
 pub mod Only

@@ -1,17 +1,18 @@
 -- What stands at the front of the bytes is what the reader finds: no bytes begin with two datums, nor
 -- with a datum and a fault, nor have two faults.
-use Rattle.std.proofs.Common.{◌≡◌, ◌≢◌, ℕ, zero, suc, ◌+◌, ◌*◌, ◌^◌, ◌<◌, ◌≤◌, ◌-◌, ◌/◌, ◌%◌, Bool, true, false, cond, eqb, ltb, List, [], ◌∷◌, ◌++◌, length, get_or, take, drop, Result, Ok, Err, refl, sym, ap, subst, ◌∙◌, arith}
+use Rattle.std.proofs.Common.{◌≡◌, ℕ, ◌+◌, ◌*◌, ◌<◌, ◌≤◌, ◌/◌, ◌%◌, List, ◌++◌, length, get_or, take, drop, Result, Ok, Err, sym, ap, subst, ◌∙◌, arith}
 use Rattle.std.specs.Prelude.{IfOk, IfErr, IsOkAnd, nat_lt, ◌==◌, if◌then◌else◌}
-use Rattle.std.specs.Int.{w32, from_le_bytes, to_le_bytes}
-use Rattle.std.proofs.lemmas.List.{take-append-drop, length-append, length-take, get_or-take}
-use Rattle.std.proofs.Math.Seq.{take-append_seam}
+use Rattle.std.specs.Int.{w32, from_le_bytes}
+use Rattle.std.proofs.lemmas.List.{get_or-take}
+use Rattle.std.proofs.Math.Seq.{drop-append_seam}
 use Rattle.std.proofs.lemmas.Bool.Decides.{nat_tests}
 use Rattle.varlena_form.specs.declared.datum.Form.{Form}
 use Rattle.varlena_form.specs.declared.fault.FormFault.{FormFault}
 use Rattle.varlena_form.specs.declared.fault.FormFault.TheVariants.{Truncated, BadTag, BadLength}
-use Rattle.varlena_form.specs.Spelling.{Datum, short, plain, compressed, external, short_form, plain_form, compressed_form, spelling, datum, Fits, BeginsWith}
+use Rattle.varlena_form.specs.Spelling.{Datum, short, plain, compressed, external, short_form, plain_form, compressed_form, spelling, datum, HasSpelling, BeginsWith}
 use Rattle.varlena_form.specs.Fault.{needed, IsFault}
 use Rattle.varlena_form.proofs.Bytes.{from_le_bytes-to}
+use Rattle.varlena_form.proofs.Front.{begins_split, begins_within, spelling_begins}
 
 -- the reading of the bytes, as a function of them
 abbrev reading : List ℕ → Result (Datum × ℕ) FormFault
@@ -22,17 +23,6 @@ reading bytes =
     else if nat_lt (from_le_bytes w32 bytes / 4) 4 then Err (BadLength (from_le_bytes w32 bytes / 4))
     else if from_le_bytes w32 bytes % 4 == 0 then Ok (plain (drop 4 (take (from_le_bytes w32 bytes / 4) bytes)), from_le_bytes w32 bytes / 4)
     else Ok (compressed (drop 4 (take (from_le_bytes w32 bytes / 4) bytes)), from_le_bytes w32 bytes / 4)
-
--- the bytes that begin with a datum are its spelling and the rest
-pub begins_split : (bytes : List ℕ) (d : Datum) (n : ℕ) → BeginsWith bytes d n → bytes ≡ spelling d ++ drop n bytes
-begins_split bytes d n h = sym (take-append-drop n bytes) ∙ ap (λ (front : List ℕ). front ++ drop n bytes) h.front
-
-pub begins_within : (bytes : List ℕ) (d : Datum) (n : ℕ) → BeginsWith bytes d n → n ≤ length bytes
-begins_within bytes d n h = omega (arith, h.len, ap length h.front, length-take n bytes)
-
--- what follows a spelling does not matter
-pub spelling_begins : (d : Datum) (rest : List ℕ) → Fits d → BeginsWith (spelling d ++ rest) d (length (spelling d))
-spelling_begins d rest fits = record { fits = fits; front = take-append_seam (spelling d) rest; len = refl }
 
 abbrev ok : Datum → ℕ → Result (Datum × ℕ) FormFault
 ok d n = Ok (d, n)
@@ -128,6 +118,15 @@ no_fault bytes d n f h g = ok_or_fault d n f (sym (datum_reads bytes d n h) ∙ 
 pub one_fault : (bytes : List ℕ) (f g : FormFault) → IsFault bytes f → IsFault bytes g → f ≡ g
 one_fault bytes f g h k = same_fault f g (sym (fault_reads bytes f h) ∙ fault_reads bytes g k)
 
+-- no spelling begins another
+pub one_spelling : (d e : Datum) (x y : List ℕ) → HasSpelling d → HasSpelling e → spelling d ++ x ≡ spelling e ++ y → (d ≡ e) × (x ≡ y)
+one_spelling d e x y fits_d fits_e same =
+    let second = subst (λ (bytes : List ℕ). BeginsWith bytes e (length (spelling e))) (sym same) (spelling_begins e y fits_e) in
+    let one = one_datum (spelling d ++ x) d e (length (spelling d)) (length (spelling e)) (spelling_begins d x fits_d) second in
+    let rests : drop (length (spelling d)) (spelling d ++ x) ≡ drop (length (spelling e)) (spelling e ++ y) =
+    ap (λ (n : ℕ). drop n (spelling d ++ x)) one.1 ∙ ap (drop (length (spelling e))) same in
+    (one.0, sym (drop-append_seam (spelling d) x) ∙ rests ∙ drop-append_seam (spelling e) y)
+
 -- a result that is right where it is Ok and right where it is an error is the only one
 pub only_datum : (bytes : List ℕ) (r : Result (Form × ℕ) FormFault) → IfOk r (λ found. BeginsWith bytes (datum found.0) found.1) → IfErr r (IsFault bytes)
     → (d : Datum) (n : ℕ) → BeginsWith bytes d n → IsOkAnd r (λ found. (datum found.0 ≡ d) × (found.1 ≡ n))
@@ -140,6 +139,6 @@ only_fault bytes (Ok x) found fault f h = absurd (no_fault bytes (datum x.0) x.1
 only_fault bytes (Err g) found fault f h = ap (λ (x : FormFault). Err x) (one_fault bytes g f fault h)
 
 pub reads_again : (bytes : List ℕ) (r : Result (Form × ℕ) FormFault) → IfOk r (λ found. BeginsWith bytes (datum found.0) found.1) → IfErr r (IsFault bytes)
-    → (d : Datum) (rest : List ℕ) → Fits d → bytes ≡ spelling d ++ rest → IsOkAnd r (λ found. (datum found.0 ≡ d) × (found.1 ≡ length (spelling d)))
+    → (d : Datum) (rest : List ℕ) → HasSpelling d → bytes ≡ spelling d ++ rest → IsOkAnd r (λ found. (datum found.0 ≡ d) × (found.1 ≡ length (spelling d)))
 reads_again bytes r found fault d rest fits is =
     only_datum bytes r found fault d (length (spelling d)) (subst (λ (x : List ℕ). BeginsWith x d (length (spelling d))) (sym is) (spelling_begins d rest fits))

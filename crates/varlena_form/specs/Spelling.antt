@@ -38,14 +38,14 @@ spelling (compressed payload) = compressed_form payload
 spelling (external bytes) = bytes
 
 -- what has a spelling: its length fits the header, and an external datum is a pointer on disk
-abbrev pub Fits : Datum → Type 0
-Fits (short payload) = length payload ≤ 126
-Fits (plain payload) = length payload + 4 < 2 ^ 30
-Fits (compressed payload) = length payload + 4 < 2 ^ 30
-Fits (external bytes) = (length bytes ≡ 18) × (slice_index bytes 0 ≡ 1) × (slice_index bytes 1 ≡ 18)
+abbrev pub HasSpelling : Datum → Type 0
+HasSpelling (short payload) = length payload ≤ 126
+HasSpelling (plain payload) = length payload + 4 < 2 ^ 30
+HasSpelling (compressed payload) = length payload + 4 < 2 ^ 30
+HasSpelling (external bytes) = (length bytes ≡ 18) × (slice_index bytes 0 ≡ 1) × (slice_index bytes 1 ≡ 18)
 
 -- the bytes begin with a datum, which takes n of them
 pub record BeginsWith (bytes : List ℕ) (d : Datum) (n : ℕ) : Type 0 where
-  pub fits : Fits d
+  pub fits : HasSpelling d
   pub front : take n bytes ≡ spelling d
   pub len : n ≡ length (spelling d)

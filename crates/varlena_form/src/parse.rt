@@ -1,7 +1,7 @@
 //! Reading the datum at the front of a buffer.
 
 ghost use Rattle.std.specs.Prelude.{◌≡◌, ◌≤◌, ℕ, ◌<◌, ◌%◌, ◌++◌, List, length, slice_index, IfOk, IfErr, IsOkAnd, MatchResult};
-ghost use Rattle.varlena_form.specs.Spelling.{Datum, Fits, spelling, datum, BeginsWith};
+ghost use Rattle.varlena_form.specs.Spelling.{Datum, HasSpelling, spelling, datum, BeginsWith};
 ghost use Rattle.varlena_form.specs.Fault.{IsFault};
 ghost use Rattle.varlena_form.specs.declared.fault.FormFault.{FormFault};
 
@@ -33,7 +33,10 @@ fn parse_external(bytes: &[u8]) -> Result<(Form<'_>, usize), FormFault>
         return Err(FormFault::BadTag { tag });
     }
     if have < POINTER_SIZE {
-        return Err(FormFault::Truncated { need: POINTER_SIZE, have });
+        return Err(FormFault::Truncated {
+            need: POINTER_SIZE,
+            have,
+        });
     }
     Ok((Form::External(&bytes[..POINTER_SIZE]), POINTER_SIZE))
 }
@@ -116,7 +119,7 @@ pub fn parse_form(bytes: &[u8]) -> Result<(Form<'_>, usize), FormFault>
     ensures fault_only { (f : FormFault) → IsFault bytes.now f → result ≡ Err f }
 
     // The round trip: a datum that was written is read again, whatever follows it.
-    ensures again { (d : Datum) (rest : List ℕ) → Fits d → bytes.now ≡ spelling d ++ rest → IsOkAnd result (λ found. (datum found.0 ≡ d) × (found.1 ≡ length (spelling d))) }
+    ensures again { (d : Datum) (rest : List ℕ) → HasSpelling d → bytes.now ≡ spelling d ++ rest → IsOkAnd result (λ found. (datum found.0 ≡ d) × (found.1 ≡ length (spelling d))) }
 {
     match bytes.first() {
         Some(first) => parse_by_header(bytes, *first),

@@ -6,10 +6,10 @@ ghost use Rattle.varlena_form.specs.Spelling.{short_form, plain_form};
 use byteorder::{ByteOrder, LittleEndian};
 use std::alloc::AllocError;
 
-#[tactic(auto, unfolding(crate::specs::Spelling::short_form))]
 /// Appends the datum with a header of one byte that has this payload, of at most 126 bytes.
 ///
 /// Where memory is missing `out` stays as it was.
+#[tactic(auto, unfolding(crate::specs::Spelling::short_form))]
 pub fn write_short(payload: &[u8], out: &mut Vec<u8>) -> Result<(), AllocError>
     requires { length payload.now ≤ 126 }
     ensures ok { OnOk result (out.new.items ≡ out.old.items ++ short_form payload.now) }
@@ -22,10 +22,10 @@ pub fn write_short(payload: &[u8], out: &mut Vec<u8>) -> Result<(), AllocError>
     Ok(())
 }
 
-#[tactic(auto, unfolding(crate::specs::Spelling::plain_form))]
 /// Appends the datum with a header of four bytes that has this payload, of at most 65,536 bytes.
 ///
 /// Where memory is missing `out` stays as it was.
+#[tactic(auto, unfolding(crate::specs::Spelling::plain_form))]
 pub fn write_plain(payload: &[u8], out: &mut Vec<u8>) -> Result<(), AllocError>
     requires { length payload.now ≤ 65536 }
     ensures ok { OnOk result (out.new.items ≡ out.old.items ++ plain_form payload.now) }

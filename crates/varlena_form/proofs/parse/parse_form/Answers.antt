@@ -1,5 +1,4 @@
 use Rattle.std.proofs.Common.{rules, Err}
-use Rattle.varlena_form.specs.Spelling.{datum, BeginsWith}
 use Rattle.varlena_form.specs.Fault.{IsFault}
 use Rattle.varlena_form.specs.declared.fault.FormFault.TheVariants.{Truncated}
 use Rattle.varlena_form.proofs.Only.{only_datum, only_fault, reads_again}

@@ -3,9 +3,8 @@ use Rattle.std.proofs.Common.{◌≡◌, ℕ, zero, suc, ◌+◌, ◌-◌, ◌*�
 use Rattle.std.specs.Prelude.{IfOk, IfErr}
 use Rattle.std.specs.Int.{w32, from_le_bytes, to_le_bytes}
 use Rattle.std.proofs.lemmas.Nat.{from_le_bytes-to_le_bytes_4}
-use Rattle.std.proofs.lemmas.List.{drop_all, length-drop}
+use Rattle.std.proofs.lemmas.List.{drop_all, length-drop, append-nil}
 use Rattle.std.proofs.Math.ListN.{set}
-use borrow.Rule.Slice.PartMut.{put_mid}
 use Rattle.external_pointer.specs.declared.external.Pointer.{Pointer}
 use Rattle.external_pointer.specs.declared.fault.PointerFault.{PointerFault}
 use Rattle.external_pointer.specs.declared.fault.PointerFault.TheVariants.{WrongLength, BadHeader, BadTag, Compressed, BadSize}
@@ -35,8 +34,12 @@ pub word_at-toast_rel : (p : Pointer) → IsInRange p → word_at 14 (pointer_by
 unfolding pointer_bytes
 word_at-toast_rel p fits = from_le_bytes-to_le_bytes_4 p.toast_rel fits.toast_rel
 
+abbrev made : ℕ → ℕ → ℕ → Pointer
+made size value_id toast_rel = record { size = size; value_id = value_id; toast_rel = toast_rel }
+
 same_pointer : (p q : Pointer) → p.size ≡ q.size → p.value_id ≡ q.value_id → p.toast_rel ≡ q.toast_rel → p ≡ q
-same_pointer p q size value_id toast_rel = cc
+same_pointer p q size value_id toast_rel =
+    let same : made p.size p.value_id p.toast_rel ≡ made q.size q.value_id q.toast_rel = cc in same
 
 -- one pointer has these bytes
 pub one_pointer : (p q : Pointer) → IsInRange p → IsInRange q → pointer_bytes p ≡ pointer_bytes q → p ≡ q
@@ -79,9 +82,18 @@ pub reads_again : (bytes : List ℕ) (r : Result Pointer PointerFault) → IfOk 
 reads_again bytes (Ok q) found fault p fits is = ap (λ (x : Pointer). Ok x) (one_pointer q p found.0 fits (sym found.1 ∙ is))
 reads_again bytes (Err f) found fault p fits is = absurd (no_fault p f fits (subst (λ (x : List ℕ). IsFault x f) is fault))
 
+ended : (rest a : List ℕ) → rest ≡ [] → a ++ rest ≡ a
+ended rest a e = ap (λ (x : List ℕ). a ++ x) e ∙ append-nil a
+
+-- the bytes with those of a number in the four places from `at` on
+abbrev pub with_word : ℕ → ℕ → List ℕ → List ℕ
+with_word at word bytes = take at bytes ++ (to_le_bytes w32 word ++ drop (at + 4) bytes)
+
 -- writing the front and then each word gives the bytes of the pointer
-pub written : (before a b c d : List ℕ) (p : Pointer) → length before ≡ 18 → a ≡ to_le_bytes w32 (p.size + 4) → b ≡ to_le_bytes w32 p.size → c ≡ to_le_bytes w32 p.value_id → d ≡ to_le_bytes w32 p.toast_rel
-    → put_mid 14 4 (put_mid 10 4 (put_mid 6 4 (put_mid 2 4 (set (set before 0 1) 1 18) a) b) c) d ≡ pointer_bytes p
+pub written : (before a b c d : List ℕ) (p : Pointer) → length before ≡ 18 → a ≡ with_word 2 (p.size + 4) (set (set before 0 1) 1 18)
+    → b ≡ with_word 6 p.size a → c ≡ with_word 10 p.value_id b → d ≡ with_word 14 p.toast_rel c → d ≡ pointer_bytes p
 unfolding pointer_bytes
-written (x ∷ y ∷ rest) a b c d p len a-is b-is c-is d-is = rw (a-is, b-is, c-is, d-is) ?
+written (x ∷ y ∷ rest) a b c d p len a-is b-is c-is d-is =
+    let all : d ≡ pointer_bytes p ++ drop 4 (drop 4 (drop 4 (drop 4 rest))) = d-is ∙ rw (c-is, b-is, a-is) refl in
+    all ∙ ended (drop 4 (drop 4 (drop 4 (drop 4 rest)))) (pointer_bytes p) (drop_all 4 (drop 4 (drop 4 (drop 4 rest))) (omega (arith, length-drop 4 rest, length-drop 4 (drop 4 rest), length-drop 4 (drop 4 (drop 4 rest)))))
 written _ a b c d p len a-is b-is c-is d-is = absurd (omega arith)

@@ -3,7 +3,7 @@ use Rattle.std.proofs.Common.{◌≡◌, ℕ, zero, suc, ◌+◌, ◌-◌, ◌*�
 use Rattle.std.specs.Int.{w32, from_le_bytes, to_le_bytes}
 use Rattle.std.proofs.lemmas.Bool.{cases_lt}
 use Rattle.std.proofs.lemmas.Nat.{le_bytes_4, from_le_bytes-to_le_bytes_4}
-use Rattle.std.proofs.lemmas.List.{get_or-drop, get_or-take, get_or_past, length-take, length-take-le, length-drop, take-append-drop, drop-drop, take_all}
+use Rattle.std.proofs.lemmas.List.{get_or-drop, get_or-take, get_or_past, length-take, length-take-le, length-drop, take-append-drop, drop-drop, take_all, drop_all}
 use Rattle.external_pointer.specs.Fault.{word_at}
 
 -- each place holds a byte
@@ -40,7 +40,18 @@ pub four_fours : (bytes : List ℕ) → length bytes ≡ 16 → bytes ≡ take 4
 four_fours bytes len =
     let last : take 4 (drop 12 bytes) ≡ drop 12 bytes = take_all 4 (drop 12 bytes) (omega (arith, length-drop 12 bytes)) in
     let third : drop 8 bytes ≡ take 4 (drop 8 bytes) ++ take 4 (drop 12 bytes) =
-      sym (take-append-drop 4 (drop 8 bytes)) ∙ ap (λ (x : List ℕ). take 4 (drop 8 bytes) ++ x) (drop-drop 4 8 bytes ∙ sym last) in
+    sym (take-append-drop 4 (drop 8 bytes)) ∙ ap (λ (x : List ℕ). take 4 (drop 8 bytes) ++ x) (drop-drop 4 8 bytes ∙ sym last) in
     let second : drop 4 bytes ≡ take 4 (drop 4 bytes) ++ (take 4 (drop 8 bytes) ++ take 4 (drop 12 bytes)) =
-      sym (take-append-drop 4 (drop 4 bytes)) ∙ ap (λ (x : List ℕ). take 4 (drop 4 bytes) ++ x) (drop-drop 4 4 bytes ∙ third) in
+    sym (take-append-drop 4 (drop 4 bytes)) ∙ ap (λ (x : List ℕ). take 4 (drop 4 bytes) ++ x) (drop-drop 4 4 bytes ∙ third) in
     sym (take-append-drop 4 bytes) ∙ ap (λ (x : List ℕ). take 4 bytes ++ x) second
+
+parts_same : (a b c x y : List ℕ) → b ≡ x → c ≡ y → a ++ (b ++ c) ≡ a ++ (x ++ y)
+parts_same a b c x y p q = cc
+
+-- a number that was written into the k = 4 places from a on: ys is what they hold then
+pub word_put : (a k : ℕ) (xs ys : List ℕ) (word : ℕ) → k ≡ 4 → ys ≡ to_le_bytes w32 word ++ drop 4 (take k (drop a xs))
+    → take a xs ++ (ys ++ drop k (drop a xs)) ≡ take a xs ++ (to_le_bytes w32 word ++ drop (a + 4) xs)
+word_put a k xs ys word four is =
+    let nothing : drop 4 (take k (drop a xs)) ≡ [] = drop_all 4 (take k (drop a xs)) (omega (arith, length-take k (drop a xs))) in
+    let after : drop k (drop a xs) ≡ drop (a + 4) xs = drop-drop k a xs ∙ ap (λ (n : ℕ). drop n xs) (omega arith) in
+    parts_same (take a xs) ys (drop k (drop a xs)) (to_le_bytes w32 word) (drop (a + 4) xs) (is ∙ ap (λ (x : List ℕ). to_le_bytes w32 word ++ x) nothing) after

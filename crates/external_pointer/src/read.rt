@@ -1,8 +1,6 @@
 //! Reading a pointer.
 
-ghost use Rattle.std.specs.Prelude.{◌≡◌, ◌≤◌, ℕ, ◌+◌, ◌<◌, length, IfOk, IfErr};
-ghost use Rattle.std.specs.Int.{w32, from_le_bytes};
-ghost use Rattle.std.specs.Prelude.{take, drop};
+ghost use Rattle.std.specs.Prelude.{◌≡◌, ◌≤◌, ℕ, ◌+◌, ◌%◌, ◌^◌, length, IfOk, IfErr};
 ghost use Rattle.external_pointer.specs.Spelling.{IsInRange, pointer_bytes};
 ghost use Rattle.external_pointer.specs.Fault.{IsFault, word_at};
 ghost use Rattle.external_pointer.specs.declared.fault.PointerFault.{PointerFault};
@@ -34,6 +32,13 @@ fn word(bytes: &[u8], at: usize) -> u32
     u32::from_le_bytes([bytes[at], bytes[at + 1], bytes[at + 2], bytes[at + 3]])
 }
 
+/// The stored length in a size word.
+fn stored_size(ext_info: u32) -> u32
+    ensures { result ≡ ext_info % 2 ^ 30 }
+{
+    ext_info & LENGTH_MASK
+}
+
 /// Reads a pointer, which has exactly 18 bytes.
 ///
 /// A fault is the first check that fails: the length, the header, the tag, then the sizes, where a
@@ -59,7 +64,7 @@ pub fn read_pointer(bytes: &[u8]) -> Result<Pointer, PointerFault>
     }
     let raw_size = word(bytes, 2);
     let ext_info = word(bytes, 6);
-    let size = ext_info & LENGTH_MASK;
+    let size = stored_size(ext_info);
     if size + HEADER_SIZE < raw_size {
         return Err(PointerFault::Compressed { raw_size, ext_info });
     }

@@ -30,7 +30,10 @@ fn fronts(rt: HostRuntime) {
         let mut header = BYTES;
         header[0] = byte;
         if byte != 1 {
-            assert_eq!(rt; read_pointer(&header), Err(PointerFault::BadHeader { byte }));
+            assert_eq!(rt;
+                read_pointer(&header),
+                Err(PointerFault::BadHeader { byte })
+            );
         }
         let mut tag = BYTES;
         tag[1] = byte;
@@ -58,7 +61,11 @@ fn plain_sizes(rt: HostRuntime) {
     ];
     for (raw_size, ext_info) in rows {
         let bytes = with_sizes(raw_size, ext_info);
-        assert_eq!(rt; read_pointer(&bytes), Ok(pointer_of(ext_info)), "at {raw_size} {ext_info}");
+        assert_eq!(rt;
+            read_pointer(&bytes),
+            Ok(pointer_of(ext_info)),
+            "at {raw_size} {ext_info}"
+        );
     }
 }
 
@@ -112,7 +119,10 @@ fn written_bytes(rt: HostRuntime) {
     write_pointer(&pointer_of(1997), &mut out);
     assert_eq!(rt; out, BYTES);
     write_pointer(&pointer_of(2001), &mut out);
-    assert_eq!(rt; &out[2..10], [0xd5, 0x07, 0, 0, 0xd1, 0x07, 0, 0].as_slice());
+    assert_eq!(rt;
+        &out[2..10],
+        [0xd5, 0x07, 0, 0, 0xd1, 0x07, 0, 0].as_slice()
+    );
     let largest = Pointer {
         size: 1_073_741_819,
         value_id: 4_294_967_295,

@@ -1,5 +1,5 @@
 -- Why bytes are no pointer.
-use Rattle.std.specs.Prelude.{◌≡◌, ◌≢◌, ℕ, ◌+◌, ◌<◌, ◌≤◌, ◌%◌, ◌^◌, List, length, slice_index, drop}
+use Rattle.std.specs.Prelude.{◌≡◌, ◌≢◌, ℕ, ◌+◌, ◌<◌, ◌%◌, ◌^◌, List, length, slice_index, drop}
 use Rattle.std.specs.Int.{w32, from_le_bytes}
 use Rattle.external_pointer.specs.declared.fault.PointerFault.{PointerFault}
 use Rattle.external_pointer.specs.declared.fault.PointerFault.TheVariants.{WrongLength, BadHeader, BadTag, Compressed, BadSize}

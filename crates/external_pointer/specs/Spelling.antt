@@ -1,5 +1,5 @@
 -- The bytes of a pointer to a value out of line. PostgreSQL documentation, "Database Physical Storage", "TOAST".
-use Rattle.std.specs.Prelude.{ℕ, ◌+◌, ◌^◌, ◌<◌, ◌≤◌, List, [], ◌∷◌, ◌++◌}
+use Rattle.std.specs.Prelude.{ℕ, ◌+◌, ◌^◌, ◌<◌, ◌≤◌, List, ◌∷◌, ◌++◌}
 use Rattle.std.specs.Int.{w32, to_le_bytes}
 use Rattle.external_pointer.specs.declared.external.Pointer.{Pointer}
 

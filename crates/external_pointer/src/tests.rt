@@ -1,3 +1,5 @@
+ghost use Rattle.std.specs.Prelude.{◌≡◌};
+
 use super::*;
 
 // A value of 1,997 bytes with the id 16384 in the relation 8193.
@@ -5,7 +7,9 @@ const BYTES: [u8; 18] = [
     0x01, 0x12, 0xd1, 0x07, 0, 0, 0xcd, 0x07, 0, 0, 0x00, 0x40, 0, 0, 0x01, 0x20, 0, 0,
 ];
 
-fn pointer_of(size: u32) -> Pointer {
+fn pointer_of(size: u32) -> Pointer
+    ensures { result.size ≡ size }
+{
     Pointer {
         size,
         value_id: 16_384,

@@ -3,7 +3,7 @@ use Rattle.std.proofs.Common.{◌≡◌, ℕ, ◌+◌, List, [], ◌∷◌, ◌+
 use Rattle.std.specs.Prelude.{IfOk, IfErr}
 use Rattle.std.specs.Int.{w32, to_le_bytes}
 use Rattle.std.proofs.lemmas.Nat.{from_le_bytes-to_le_bytes_4}
-use Rattle.std.proofs.lemmas.List.{drop_all, length-drop, append-nil}
+use Rattle.std.proofs.lemmas.List.{drop_all, length-drop, append-nil, take_at, drop_at}
 use Rattle.std.proofs.Math.ListN.{set}
 use Rattle.external_pointer.specs.declared.external.Pointer.{Pointer}
 use Rattle.external_pointer.specs.declared.fault.PointerFault.{PointerFault}
@@ -15,6 +15,11 @@ use Rattle.external_pointer.proofs.Words.{IsBytes, to_le_bytes-word_at, four_fou
 pub length-pointer_bytes : (p : Pointer) → length (pointer_bytes p) ≡ 18
 unfolding pointer_bytes
 length-pointer_bytes p = refl
+
+-- a pointer begins as an external datum on disk
+pub pointer_bytes-front : (p : Pointer) → (get_or (pointer_bytes p) 0 0 ≡ 1) × (get_or (pointer_bytes p) 1 0 ≡ 18)
+unfolding pointer_bytes
+pointer_bytes-front p = (refl, refl)
 
 -- what the words of a pointer's bytes are
 
@@ -47,6 +52,15 @@ one_pointer p q fits others same =
     same_pointer p q (sym (word_at-size p fits) ∙ ap (word_at 6) same ∙ word_at-size q others)
     (sym (word_at-value_id p fits) ∙ ap (word_at 10) same ∙ word_at-value_id q others)
     (sym (word_at-toast_rel p fits) ∙ ap (word_at 14) same ∙ word_at-toast_rel q others)
+
+-- the same where other bytes follow
+pub one_pointer_front : (p q : Pointer) (x y : List ℕ) → IsInRange p → IsInRange q → pointer_bytes p ++ x ≡ pointer_bytes q ++ y → (p ≡ q) × (x ≡ y)
+one_pointer_front p q x y fits others same =
+    let p_len = length-pointer_bytes p in
+    let q_len = length-pointer_bytes q in
+    let fronts : pointer_bytes p ≡ pointer_bytes q = sym (take_at (pointer_bytes p) x 18 p_len) ∙ ap (take 18) same ∙ take_at (pointer_bytes q) y 18 q_len in
+    let rests : x ≡ y = sym (drop_at (pointer_bytes p) x 18 p_len) ∙ ap (drop 18) same ∙ drop_at (pointer_bytes q) y 18 q_len in
+    (one_pointer p q fits others fronts, rests)
 
 joined : (a b c d w x y z : List ℕ) → a ≡ w → b ≡ x → c ≡ y → d ≡ z → a ++ (b ++ (c ++ d)) ≡ w ++ (x ++ (y ++ z))
 joined a b c d w x y z p q r s = cc

@@ -6,17 +6,8 @@ ghost use Rattle.external_pointer.specs.Fault.{IsFault, word_at};
 ghost use Rattle.external_pointer.specs.declared.fault.PointerFault.{PointerFault};
 ghost use Rattle.external_pointer.specs.declared.external.Pointer.{Pointer};
 
-use crate::external::Pointer;
+use crate::external::{EXTERNAL, ON_DISK, POINTER_SIZE, Pointer};
 use crate::fault::PointerFault;
-
-/// The header byte of an external datum.
-const EXTERNAL: u8 = 1;
-
-/// The tag of a pointer on disk.
-const ON_DISK: u8 = 18;
-
-/// How many bytes a pointer takes.
-const POINTER_SIZE: usize = 18;
 
 /// How many bytes the header counts that a value would have inline.
 const HEADER_SIZE: u32 = 4;

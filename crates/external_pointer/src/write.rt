@@ -4,7 +4,7 @@ ghost use Rattle.std.specs.Prelude.{◌≡◌, ◌≤◌, ◌+◌, ◌++◌, len
 ghost use Rattle.std.specs.Int.{w32, to_le_bytes};
 ghost use Rattle.external_pointer.specs.Spelling.{pointer_bytes};
 
-use crate::external::Pointer;
+use crate::external::{EXTERNAL, ON_DISK, Pointer};
 use byteorder::{ByteOrder, LittleEndian};
 
 /// Writes a number into the four bytes from `at` on, low byte first.
@@ -20,8 +20,8 @@ pub fn write_pointer(p: &Pointer, out: &mut [u8; 18])
     requires { p.now.size ≤ 1073741819 }
     ensures { out.new ≡ pointer_bytes p.now }
 {
-    out[0] = 1;
-    out[1] = 18;
+    out[0] = EXTERNAL;
+    out[1] = ON_DISK;
     put_word(out, 2, p.size + 4);
     put_word(out, 6, p.size);
     put_word(out, 10, p.value_id);

@@ -11,22 +11,23 @@ pub data Datum : Type 0 where
   compressed : List ℕ → Datum
   external : List ℕ → Datum
 
--- what a value of the program is
+-- the datum that the program holds as a form
 abbrev pub datum : Form → Datum
 datum (Short payload) = short payload.now
 datum (Plain payload) = plain payload.now
 datum (Compressed payload) = compressed payload.now
 datum (External bytes) = external bytes.now
 
--- one byte, of which the low bit is set and the others are the length, that byte counted
+-- one byte and the payload: the byte's low bit is set, and the others are the length, that byte counted
 unfoldable pub short_form : List ℕ → List ℕ
 short_form payload = (2 * (length payload + 1) + 1) ∷ payload
 
--- four bytes, low one first, with two low bits 00 and above them the length, those bytes counted
+-- four bytes, the low one first, and the payload: the two low bits are 00, and the others are the length,
+-- those four bytes counted
 unfoldable pub plain_form : List ℕ → List ℕ
 plain_form payload = to_le_bytes w32 (4 * (length payload + 4)) ++ payload
 
--- the same with the low bits 10
+-- the same with 10 as the two low bits: the payload is compressed
 unfoldable pub compressed_form : List ℕ → List ℕ
 compressed_form payload = to_le_bytes w32 (4 * (length payload + 4) + 2) ++ payload
 

@@ -97,11 +97,13 @@ module _ {V F : Type 0} (entries : V → List Entry) (fixed : V → F) (first : 
   out_stays : (s : State (Option V) (View F)) (r : Rule s) (me : ℕ) (v w : View F) → get_elem? s.views me ≡ some v → (v.turn ≡ true → w.turn ≡ true)
       → (seat : ℕ) → r.holder ≡ Some seat → IsOut s.homes (set s.views me w) seat
   out_stays s r me v w at more seat is =
-      let o = r.out seat is in
-      (o.0, dite (ℕ_discrete seat me)
-      (λ e. let same : o.1.0 ≡ v = some-injective _ _ (sym o.1.1 ∙ ap (get_elem? s.views) e ∙ at) in
-      (w, ap (get_elem? (set s.views me w)) e ∙ set_here s.views me w (get_below s.views me v at), more (ap (λ (x : View F). x.turn) (sym same) ∙ o.1.2)))
-      (λ ne. (o.1.0, set_else s.views me seat w ne ∙ o.1.1, o.1.2)))
+      let o = r.out seat is in (
+        o.0,
+        dite (ℕ_discrete seat me)
+            (λ e. let same : o.1.0 ≡ v = some-injective _ _ (sym o.1.1 ∙ ap (get_elem? s.views) e ∙ at) in
+            (w, ap (get_elem? (set s.views me w)) e ∙ set_here s.views me w (get_below s.views me v at), more (ap (λ (x : View F). x.turn) (sym same) ∙ o.1.2)))
+            (λ ne. (o.1.0, set_else s.views me seat w ne ∙ o.1.1, o.1.2)),
+      )
 
   -- at the start
   pub begins : (n : ℕ) (slots : List (Option V)) (x : V) → n ≡ length (entries x) → n < 2 ^ 62 → slots ≡ Some x ∷ [] → first ≡ x
@@ -309,16 +311,16 @@ module _ {V F : Type 0} (entries : V → List Entry) (fixed : V → F) (first : 
   unfolding step_keeps
   joins id v other w idle idle' s r at ne there =
       let at' : get_elem? s.views other ≡ some w = ⊎_elim
-          (λ (t : (other ≡ id) × (joined v w ≡ w)). absurd (ne t.0))
-          (λ (t : (other ≢ id) × (get_elem? s.views other ≡ some w)). t.1)
-          (at_set s.views id other (joined v w) w there) in
+      (λ (t : (other ≡ id) × (joined v w ≡ w)). absurd (ne t.0))
+      (λ (t : (other ≢ id) × (get_elem? s.views other ≡ some w)). t.1)
+      (at_set s.views id other (joined v w) w there) in
       let k = r.fits id v at in
       let k' = r.fits other w at' in
       let s1 : State (Option V) (View F) = record { words = turn_word (length r.history) r.holder ∷ []; homes = s.homes; views = set s.views other spent } in
       let r1 : Rule s1 = step_keeps s r other spent s.homes r.history r.holder r.short r.home (out_stays s r other w spent at' (λ t. off (sym idle' ∙ t)))
-          record { seen = (r.history, refl); heard = (r.history, refl); shorter = omega arith; places = places_nil []; same = λ f e. absurd (cc); turn = λ t. off t }
-          (λ j u _ e. r.fits j u e)
-          (λ j u _ e p a b. contains_nil p a) in
+      record { seen = (r.history, refl); heard = (r.history, refl); shorter = omega arith; places = places_nil []; same = λ f e. absurd (cc); turn = λ t. off t }
+      (λ j u _ e. r.fits j u e)
+      (λ j u _ e p a b. contains_nil p a) in
       let apart : (p : ℕ) → Contains v.mine p → Contains w.mine p → ⊥ = λ p a b. r.apart id other v w (λ q. ne (sym q)) at at' p a b in
       let far : (j : ℕ) (u : View F) → j ≢ id → get_elem? s1.views j ≡ some u → (p : ℕ) → Contains (merged v.mine w.mine) p → Contains u.mine p → ⊥ = λ j u far e p a b.
       ⊎_elim

@@ -1,5 +1,5 @@
 -- What contracts see of a hall and of its passes, and what each call makes of a pass.
-use Rattle.std.specs.Prelude.{◌≡◌, ◌⊎◌, ℕ, ◌%◌, ◌<◌, List, [], ◌∷◌, ◌++◌, length, Bool, true, false, Option, Some, if◌then◌else◌, nat_le, All, AllPairs}
+use Rattle.std.specs.Prelude.{◌≡◌, ◌⊎◌, ℕ, ◌%◌, ◌<◌, List, [], ◌∷◌, ◌++◌, length, Bool, true, false, Option, Some, if◌then◌else◌, nat_le, All, AllPairs, slice_get}
 use mathlib.Core.List.{IsPrefix}
 use Rattle.atomic_table.specs.Seated.{TableId}
 
@@ -70,9 +70,11 @@ module _ {F : Type 0} where
   abbrev pub Won : PassModel F → List Entry → PassModel F → Type 0
   Won old history new = IsPrefix old.seen history × ((word : ℕ) × (word % 2 ≡ 0) × (new ≡ record old { turn = true; seen = history; tries = old.tries ++ word ∷ [] }))
 
-  -- the same after some number of tries
+  -- tries were made that found the value away, and then one that found it at home
   abbrev pub Took : PassModel F → List Entry → PassModel F → Type 0
-  Took old history new = IsPrefix old.seen history × (new ≡ record old { turn = true; seen = history; tries = new.tries })
+  Took old history new =
+      IsPrefix old.seen history
+      × ((misses : List ℕ) × (word : ℕ) × All (λ n. n % 2 ≡ 1) misses × (word % 2 ≡ 0) × (new ≡ record old { turn = true; seen = history; tries = old.tries ++ misses ++ word ∷ [] }))
 
   -- the pass has given the value back with this history
   abbrev pub after_turn : PassModel F → List Entry → PassModel F
@@ -85,3 +87,9 @@ module _ {F : Type 0} where
   -- the pass has seen the longer history and has the entries of both
   abbrev pub joined_with : PassModel F → PassModel F → PassModel F
   joined_with pass other = record pass { seen = longer pass.seen other.seen; mine = merged pass.mine other.mine }
+
+  -- the history begins with all that the pass has seen, and has the pass's own entries where the pass has seen them
+  pub record Continues (pass : PassModel F) (history : List Entry) : Type 0 where
+    pub begins : IsPrefix pass.seen history
+    pub places : ArePlaces pass.mine pass.seen
+    pub entries : All (λ p. slice_get history p ≡ slice_get pass.seen p) pass.mine

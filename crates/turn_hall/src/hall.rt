@@ -1,7 +1,7 @@
 //! The hall and its passes.
 ghost use Rattle.std.specs.Prelude.{◌≡◌, true, false, IfOk, IfSome, IfNone};
 ghost use mathlib.Core.List.{IsPrefix};
-ghost use Rattle.turn_hall.specs.Passes.{Extends, ArePlaces, IsPassOf, first_pass, Missed, Won, Took, after_turn, split_off, joined_with};
+ghost use Rattle.turn_hall.specs.Passes.{Extends, ArePlaces, IsPassOf, first_pass, Missed, Won, Took, after_turn, split_off, joined_with, Continues};
 
 use crate::counted::Counted;
 use crate::rule::{Hand, InTurns, Release, Settle, Try, View};
@@ -141,8 +141,7 @@ impl<V: Counted> Hall<V> {
     pub fn close<R: Wait>(self, rt: &R, mut pass: Pass<V>) -> V
         requires own { IsPassOf self pass }
         requires idle { pass.turn ≡ false }
-        ensures seen { IsPrefix pass.seen (V.entries result) }
-        ensures places { ArePlaces pass.mine pass.seen }
+        ensures history { Continues pass (V.entries result) }
         ensures fixed { V.fixed result ≡ self.fixed }
     {
         self.take(rt, &mut pass)

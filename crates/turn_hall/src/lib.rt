@@ -11,3 +11,6 @@ mod rule;
 
 pub use counted::Counted;
 pub use hall::{Hall, Pass};
+
+#[cfg(test)]
+mod tests;

@@ -6,8 +6,7 @@ pub join_seat-requires : goal.join_seat-requires
 join_seat-requires g c =
     let shape = c.self.invariant in
     let hall = sym (ap (λ h. h.table) c.self.view_is) in
-    let idle = ap (λ t. t.turn) c.other.view_is ∙ c.requires.idle.1 in
-    (
+    let idle = ap (λ t. t.turn) c.other.view_is ∙ c.requires.idle.1 in (
       ap (λ t. t.hall) c.pass.view_is ∙ c.requires.own.0.0 ∙ hall,
       ap (λ t. t.hall) c.other.view_is ∙ c.requires.own.1.0 ∙ hall,
       no_slot c.other.inside.seat.me c.other.invariant idle,

@@ -111,6 +111,7 @@ impl<V: Counted> Hall<V> {
     }
 
     /// A new pass that has seen as much as this one.
+    #[tactic(auto, using(crate::proofs::Moves::splits))]
     pub fn split_pass(&self, pass: &mut Pass<V>) -> Pass<V>
         requires own { IsPassOf self.now pass.old }
         requires idle { pass.old.turn ≡ false }
@@ -124,6 +125,7 @@ impl<V: Counted> Hall<V> {
     }
 
     /// Makes one pass of two.
+    #[tactic(auto, using(crate::proofs::Moves::joins, crate::proofs::Moves::no_slot))]
     pub fn join_pass(&self, pass: &mut Pass<V>, other: Pass<V>)
         requires own { IsPassOf self.now pass.old × IsPassOf self.now other }
         requires idle { (pass.old.turn ≡ false) × (other.turn ≡ false) }

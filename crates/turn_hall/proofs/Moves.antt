@@ -1,5 +1,5 @@
 -- Each step keeps the rule of a hall.
-use Rattle.std.proofs.Common.{◌≡◌, ◌≢◌, ◌⊎◌, ℕ, zero, suc, ◌+◌, ◌*◌, ◌/◌, ◌%◌, ◌^◌, ◌<◌, ◌≤◌, List, [], ◌∷◌, ◌++◌, map, length, set, Option, Some, None, Bool, true, false, refl, sym, ap, ◌∙◌, subst, inl, inr, ⊎_elim, arith, if◌then◌else◌}
+use Rattle.std.proofs.Common.{◌≡◌, ◌≢◌, ℕ, zero, suc, ◌+◌, ◌*◌, ◌/◌, ◌%◌, ◌^◌, ◌<◌, ◌≤◌, List, [], ◌∷◌, ◌++◌, map, length, set, Option, Some, None, Bool, true, false, refl, sym, ap, ◌∙◌, subst, ⊎_elim, arith, if◌then◌else◌}
 use Rattle.std.specs.Prelude.{slice_index, slice_set, bit_or, Contains}
 use mathlib.Core.Option.{some, none, some-ne-none, some-injective}
 use mathlib.Core.Logic.{dite}
@@ -11,9 +11,9 @@ use native.Mathlib.Nat.{eq-zero-or-pos}
 use Rattle.atomic_table.specs.Table.{State, Me, Act, keeps, takes, gives, rest, step, Valid, homes_after, carried_after, Allows, Splits, Joins, opening}
 use Rattle.atomic_table.proofs.Lists.{at_set, set_here, set_again, set_else, at_longer, at_snoc}
 use Rattle.turn_hall.specs.declared.rule.View.{View}
-use Rattle.turn_hall.specs.Passes.{Entry, Extends, ArePlaces, merged, longer}
+use Rattle.turn_hall.specs.Passes.{Entry, Extends, merged}
 use Rattle.turn_hall.specs.Turns.{Homes, turn_word, spent, onlooker, missed, won, done, told, joined, settled, Fits, IsOut, Holds, Releases, Settles, IsHome, Turns, Tries}
-use Rattle.turn_hall.proofs.Prefixes.{prefix_refl, prefix_same, prefix_trans, prefix_length, prefix_extends, prefix_shorter, longer_case, shorter_case, longer_length, shorter_length}
+use Rattle.turn_hall.proofs.Prefixes.{prefix_refl, prefix_same, prefix_trans, prefix_length, prefix_extends, prefix_shorter, longer_case, shorter_case, shorter_length}
 use Rattle.turn_hall.proofs.Positions.{contains_nil, contains_merged, contains_after, places_nil, places_longer, places_below, places_after, places_merged}
 
 -- setting the lowest bit of a number
@@ -58,8 +58,8 @@ module _ {V F : Type 0} (entries : V → List Entry) (fixed : V → F) (first : 
   abbrev Rule : State (Option V) (View F) → Type 0
   Rule = Turns entries fixed first
 
-  abbrev Sat : Type 0
-  Sat = Me (Option V) (View F)
+  abbrev AtSeat : Type 0
+  AtSeat = Me (Option V) (View F)
 
   -- the rule after a step of the seat `me`, from what is true of it and of the others
   step_keeps : (s : State (Option V) (View F)) (r : Rule s) (me : ℕ) (w : View F) (homes : Homes V) (history : List Entry) (holder : Option ℕ)
@@ -251,22 +251,22 @@ module _ {V F : Type 0} (entries : V → List Entry) (fixed : V → F) (first : 
       subst (λ (k : ℕ). ReleaseAt s id v x k s.words) (sym is) (release_by s r id v x turn knows extends short at s.words r.words (omega (arith, one)))
 
   -- the steps, at a seat as a call finds it
-  pub tries_at : (slots id : ℕ) (me : Sat) → slots ≡ 1 → Holds me → me.0.turn ≡ false → Allows Rule slots id me 0 (λ n. bit_or n 1) (Tries entries fixed (step slots 0 1 0 none) me)
+  pub tries_at : (slots id : ℕ) (me : AtSeat) → slots ≡ 1 → Holds me → me.0.turn ≡ false → Allows Rule slots id me 0 (λ n. bit_or n 1) (Tries entries fixed (step slots 0 1 0 none) me)
   tries_at slots id me one holds idle =
       subst (λ (z : ℕ × List (ℕ × Option V)). Allows Rule z.0 id (me.0, z.1) 0 (λ n. bit_or n 1) (Tries entries fixed (step z.0 0 1 0 none) (me.0, z.1)))
       (λ i. (sym one i, sym (no_slot me holds idle) i))
       (tries id me.0 idle)
 
-  pub releases_at : (slots id : ℕ) (old me : Sat) (y : Option V) (x : V) (n : ℕ) → slots ≡ 1 → old.1 ≡ (0, y) ∷ [] → me ≡ (old.0, (0, Some x) ∷ rest old.1) → n ≡ length (entries x) → n < 2 ^ 62
+  pub releases_at : (slots id : ℕ) (old me : AtSeat) (y : Option V) (x : V) (n : ℕ) → slots ≡ 1 → old.1 ≡ (0, y) ∷ [] → me ≡ (old.0, (0, Some x) ∷ rest old.1) → n ≡ length (entries x) → n < 2 ^ 62
       → old.0.turn ≡ true → old.0.fixed ≡ Some (fixed x) → Extends old.0.seen (entries x)
       → Allows Rule slots id me 0 (λ _. 2 * n) (λ _. Releases entries (step slots 0 (2 * n) 0 none) me (2 * n))
   releases_at slots id old me y x n one has now is short turn knows extends =
       let me' : me ≡ (old.0, (0, Some x) ∷ []) = now ∙ ap (λ l. (old.0, (0, Some x) ∷ rest l)) has in
-      subst (λ (z : ℕ × Sat). Allows Rule z.0 id z.1 0 (λ _. 2 * n) (λ _. Releases entries (step z.0 0 (2 * n) 0 none) z.1 (2 * n)))
+      subst (λ (z : ℕ × AtSeat). Allows Rule z.0 id z.1 0 (λ _. 2 * n) (λ _. Releases entries (step z.0 0 (2 * n) 0 none) z.1 (2 * n)))
       (λ i. (sym one i, sym me' i))
       (releases id old.0 x (2 * n) (ap (λ k. 2 * k) is) turn knows extends (subst (λ k. k < 2 ^ 62) is short))
 
-  pub settles : (slots id : ℕ) (me : Sat) → Allows Rule slots id me 0 (λ n. n) (Settles (step slots 0 0 0 none) me)
+  pub settles : (slots id : ℕ) (me : AtSeat) → Allows Rule slots id me 0 (λ n. n) (Settles (step slots 0 0 0 none) me)
   settles slots id me s r one at small =
       let v : View F = me.0 in
       let k = r.fits id v at in

@@ -1,13 +1,12 @@
 -- Ascending lists of positions.
-use Rattle.std.proofs.Common.{◌≡◌, ◌⊎◌, ℕ, zero, suc, ◌+◌, ◌<◌, ◌≤◌, List, [], ◌∷◌, ◌++◌, length, get_or, Bool, true, false, refl, sym, ap, ◌∙◌, subst, inl, inr, ⊎_elim, arith, if◌then◌else◌, nat_le}
+use Rattle.std.proofs.Common.{◌≡◌, ◌⊎◌, ℕ, zero, suc, ◌<◌, ◌≤◌, List, [], ◌∷◌, ◌++◌, length, get_or, Bool, true, false, refl, inl, inr, ⊎_elim, arith, if◌then◌else◌, nat_le}
 use Rattle.std.specs.List.{All, AllPairs, Contains}
 use Rattle.std.proofs.lemmas.Bool.Decides.{nat_tests}
 use Rattle.std.proofs.lemmas.List.Elements.{All-nil, All-cons, All-head, All-tail, All-push, All-weaker, All-contains, Contains-append_cases}
 use Rattle.std.proofs.lemmas.List.Kept.{AllPairs-cons}
 use Rattle.std.proofs.lemmas.List.Quantifiers.{all_pairs_push}
-use mathlib.Core.List.{IsPrefix}
 use Rattle.turn_hall.specs.Passes.{Entry, ArePlaces, placed, merged, mine_after, longer}
-use Rattle.turn_hall.proofs.Prefixes.{prefix_length, longer_length}
+use Rattle.turn_hall.proofs.Prefixes.{longer_length}
 
 contains_at : (p q : ℕ) (qs : List ℕ) (k : ℕ) → k < length (q ∷ qs) → get_or (q ∷ qs) k p ≡ p → (q ≡ p) ⊎ Contains qs p
 contains_at p q qs zero h e = inl e

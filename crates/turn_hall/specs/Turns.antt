@@ -1,11 +1,10 @@
 -- The rule of a hall, and what each of its atomic steps tells the pass that makes it.
 -- Word 0 is twice the length of the history, and one more while the value is away. Slot 0 has the value while it is at home.
-use Rattle.std.specs.Prelude.{◌≡◌, ◌≢◌, ℕ, ◌+◌, ◌*◌, ◌%◌, ◌^◌, ◌<◌, ◌≤◌, List, [], ◌∷◌, ◌++◌, length, Bool, true, false, Option, Some, None, if◌then◌else◌, Contains}
+use Rattle.std.specs.Prelude.{◌≡◌, ◌≢◌, ℕ, ◌+◌, ◌*◌, ◌%◌, ◌^◌, ◌<◌, ◌≤◌, List, [], ◌∷◌, ◌++◌, length, true, false, Option, Some, None, if◌then◌else◌, Contains}
 use mathlib.Core.Option.{some, none}
 use mathlib.Core.List.{IsPrefix}
 use lib.ListN.{get_elem?}
 use Rattle.atomic_table.specs.Table.{State, Me, Step}
-use Rattle.atomic_table.specs.Seated.{TableId}
 use Rattle.atomic_table.specs.declared.shared.Seat.{Seat}
 use Rattle.turn_hall.specs.declared.rule.View.{View}
 use Rattle.turn_hall.specs.Passes.{Entry, ArePlaces, longer, shorter, merged, mine_after, PassModel}
@@ -52,7 +51,7 @@ module _ {F : Type 0} where
   abbrev pub settled : View F → View F
   settled v = record v { heard = [] }
 
-  -- what is true of the view of one seat: where it has the turn, it is the holder and has seen all
+  -- what is true of the view of one seat. It has seen a beginning of the history, in which its entries stand; where it has the turn, it is the holder and has seen all
   pub record Fits (history : List Entry) (fixed : F) (holder : Option ℕ) (seat : ℕ) (v : View F) : Type 0 where
     pub seen : IsPrefix v.seen history
     pub heard : IsPrefix v.heard history
@@ -91,7 +90,8 @@ module _ {V F : Type 0} (entries : V → List Entry) (fixed : V → F) where
   abbrev pub IsHome : Homes V → List Entry → F → Type 0
   IsHome homes history f = (x : V) × (get_elem? homes 0 ≡ some (some (Some x))) × (entries x ≡ history) × (fixed x ≡ f)
 
-  -- the rule of a hall that was made with the value `first`
+  -- the rule of a hall that was made with the value `first`. The word tells the length of the history and whether a seat holds the value.
+  -- While none does, the slot is at home with a value that has this history, and else it is out with the holder. Each view fits, and no two share an entry
   pub record Turns (first : V) (s : State (Option V) (View F)) : Type 0 where
     pub history : List Entry
     pub holder : Option ℕ

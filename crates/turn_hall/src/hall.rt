@@ -47,7 +47,8 @@ impl<V: Counted> Model for Pass<V> {
 }
 
 impl<V: Counted> Hall<V> {
-    /// A hall with the value at home, and its first pass.
+    /// A hall with the value at home, and its first pass, which has seen the whole history.
+    /// Where there is no memory the value is dropped.
     pub fn new(alloc: Global, value: V) -> Result<(Hall<V>, Pass<V>), AllocError>
         ensures { IfOk result (λ r. (r.0.fixed ≡ V.fixed value) × (r.1 ≡ first_pass r.0 (V.entries value))) }
     {
@@ -61,7 +62,7 @@ impl<V: Counted> Hall<V> {
         Ok((Hall { table }, Pass { seat }))
     }
 
-    /// The value, if it is at home. This waits for nobody.
+    /// The value, if it is at home at the first step on the hall's word. This waits for nobody.
     pub fn try_take(&self, pass: &mut Pass<V>) -> Option<V>
         requires own { IsPassOf self.now pass.old }
         requires idle { pass.old.turn ≡ false }
@@ -78,7 +79,7 @@ impl<V: Counted> Hall<V> {
         }
     }
 
-    /// The value, once it is at home. This may wait for it without end.
+    /// The value, once a try finds it at home. This may wait without end.
     pub fn take<R: Wait>(&self, rt: &R, pass: &mut Pass<V>) -> V
         requires own { IsPassOf self.now pass.old }
         requires idle { pass.old.turn ≡ false }
@@ -95,7 +96,8 @@ impl<V: Counted> Hall<V> {
         unreachable!()
     }
 
-    /// Gives back the value that the pass took, with at most one entry more.
+    /// Gives back the value that the pass took, with its history as it was or one entry longer.
+    /// The new entry is the pass's own.
     pub fn give(&self, pass: &mut Pass<V>, value: V)
         requires own { IsPassOf self.now pass.old }
         requires turn { pass.old.turn ≡ true }
@@ -110,7 +112,7 @@ impl<V: Counted> Hall<V> {
         self.table.shared.store::<Release>(&mut pass.seat, 0, word);
     }
 
-    /// A new pass that has seen as much as this one.
+    /// A new pass that has seen as much as this one and has no entries.
     #[tactic(auto, using(crate::proofs::Moves::splits))]
     pub fn split_pass(&self, pass: &mut Pass<V>) -> Pass<V>
         requires own { IsPassOf self.now pass.old }
@@ -124,7 +126,7 @@ impl<V: Counted> Hall<V> {
         }
     }
 
-    /// Makes one pass of two.
+    /// Makes one pass of two: it has seen what either had seen, and has the entries of both.
     #[tactic(auto, using(crate::proofs::Moves::joins, crate::proofs::Moves::no_slot))]
     pub fn join_pass(&self, pass: &mut Pass<V>, other: Pass<V>)
         requires own { IsPassOf self.now pass.old × IsPassOf self.now other }
@@ -139,7 +141,7 @@ impl<V: Counted> Hall<V> {
         self.table.shared.load::<Settle>(&mut pass.seat, 0);
     }
 
-    /// Takes the value and ends the hall. This may wait for it without end.
+    /// Takes the value and ends the hall. This may wait without end.
     pub fn close<R: Wait>(self, rt: &R, mut pass: Pass<V>) -> V
         requires own { IsPassOf self pass }
         requires idle { pass.turn ≡ false }

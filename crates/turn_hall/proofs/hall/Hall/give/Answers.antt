@@ -1,4 +1,4 @@
-use Rattle.std.proofs.Common.{◌≡◌, ◌∙◌, arith, ap, sym, subst, Some, List, ℕ}
+use Rattle.std.proofs.Common.{◌∙◌, arith, ap, sym, subst, Some, List, ℕ}
 use Rattle.turn_hall.specs.Passes.{Extends}
 use Rattle.turn_hall.proofs.Moves.{releases_at, one_slot}
 use Rattle.turn_hall.proofs.hall.Hall.give.Goals as goal

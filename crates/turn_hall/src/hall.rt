@@ -4,7 +4,7 @@ ghost use mathlib.Core.List.{IsPrefix};
 ghost use Rattle.turn_hall.specs.Passes.{Extends, ArePlaces, IsPassOf, first_pass, Missed, Won, Took, after_turn, split_off, joined_with, Continues};
 
 use crate::counted::Counted;
-use crate::rule::{Hand, InTurns, Release, Settle, Try, View};
+use crate::rule::{InTurns, JoinPass, Release, Settle, SplitPass, Try, View};
 use atomic_table::{Seat, Table};
 use std::alloc::{AllocError, Global};
 use std::marker::Model;
@@ -122,7 +122,7 @@ impl<V: Counted> Hall<V> {
         ensures own { IsPassOf self.now result }
     {
         Pass {
-            seat: self.table.shared.split_seat::<Hand>(&mut pass.seat),
+            seat: self.table.shared.split_seat::<SplitPass>(&mut pass.seat),
         }
     }
 
@@ -137,7 +137,9 @@ impl<V: Counted> Hall<V> {
         ensures own { IsPassOf self.now pass.new }
     {
         let Pass { seat } = other;
-        self.table.shared.join_seat::<Hand>(&mut pass.seat, seat);
+        self.table
+            .shared
+            .join_seat::<JoinPass>(&mut pass.seat, seat);
         self.table.shared.load::<Settle>(&mut pass.seat, 0);
     }
 

@@ -52,16 +52,19 @@ impl<V: Counted> Play<Option<V>, View<V::Fixed>> for Settle {
     ghost then = { Settles };
 }
 
-/// Cuts a pass in two, and makes one pass of two.
-pub struct Hand;
+/// Cuts a pass in two: the new one has seen as much and has no entries.
+pub struct SplitPass;
 
-impl<F> Split<View<F>> for Hand {
+impl<F> Split<View<F>> for SplitPass {
     ghost left = { λ v. v };
 
     ghost right = { told };
 }
 
-impl<F> Join<View<F>> for Hand {
+/// Makes one pass of two, which has seen the longer history and has the entries of both.
+pub struct JoinPass;
+
+impl<F> Join<View<F>> for JoinPass {
     ghost both = { joined };
 
     ghost spent = { spent };

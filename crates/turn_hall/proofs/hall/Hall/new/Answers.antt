@@ -1,6 +1,9 @@
-use Rattle.std.proofs.Common.{[], ◌∷◌, ◌++◌, Some, ap, ◌∙◌}
+use Rattle.std.proofs.Common.{◌≡◌, [], ◌∷◌, Some, refl}
 use Rattle.turn_hall.proofs.Moves.{begins}
 use Rattle.turn_hall.proofs.hall.Hall.new.Goals as goal
 
 pub new-requires : goal.new-requires
-new-requires g c = begins _ _ _ _ _ c.args.value c.count-word.ensures.count c.count-word.ensures.short (c.in_ok-push.ensures.items ∙ ap (λ l. l ++ Some c.args.value ∷ []) c.new-slots.ensures.items) c.of-first.ensures
+new-requires g c =
+    let count = c.count-word.ensures in
+    let pushed : c.push.new.self.items ≡ Some c.args.value ∷ [] = rw (c.in_ok-push.ensures.items, c.new-slots.ensures.items) refl in
+    begins _ _ _ _ _ c.args.value count.count count.short pushed c.of-first.ensures

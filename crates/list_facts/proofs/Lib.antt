@@ -1,1 +1,4 @@
 pub mod Changed
+pub mod Ascending
+pub mod Pushed
+pub mod Members

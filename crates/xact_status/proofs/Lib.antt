@@ -1,3 +1,4 @@
 pub mod Places
 pub mod RunningLists
 pub mod Numbers
+pub mod Events

@@ -1,1 +1,2 @@
 pub mod Xacts
+pub mod Versions

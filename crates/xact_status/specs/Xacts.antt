@@ -1,6 +1,6 @@
 -- Transactions by their numbers (xids), and how each of them stands. Documentation: "Transaction Processing, Transactions and Identifiers".
-use Rattle.std.specs.Prelude.{◌≡◌, ℕ, suc, ◌+◌, ◌-◌, ◌<◌, ◌≤◌, Bool, List, [], ◌∷◌, ◌++◌, length, slice_get, slice_set, Option, Some, None, is_some, option_and_then, count_by, nat_lt, if◌then◌else◌}
-use Rattle.std.specs.Option.{option_map}
+use Rattle.std.specs.Prelude.{◌≡◌, ℕ, suc, ◌+◌, ◌-◌, ◌<◌, ◌≤◌, Bool, true, false, List, [], ◌∷◌, ◌++◌, length, slice_get, slice_set, Option, Some, None, is_some, option_and_then, count_by, nat_lt, if◌then◌else◌}
+use Rattle.std.specs.Option.{option_map, option_map_or}
 use Rattle.xact_status.specs.declared.Xact.{Xact}
 use Rattle.xact_status.specs.declared.Xact.TheVariants.{Running, Committed, Aborted}
 use Rattle.xact_status.specs.declared.XactState.{XactState}
@@ -45,6 +45,18 @@ number_of (Running session) = None
 number_of (Committed number) = Some number
 number_of Aborted = None
 
+-- the number of a commit, in the state of a transaction that has committed
+abbrev pub number_of_state : XactState → Option ℕ
+number_of_state states.Running = None
+number_of_state (states.Committed number) = Some number
+number_of_state states.Aborted = None
+
+-- whether a transaction has aborted
+abbrev pub has_aborted : Xact → Bool
+has_aborted (Running session) = false
+has_aborted (Committed number) = false
+has_aborted Aborted = true
+
 -- how the transaction with an xid stands: the map from xids to states
 abbrev pub status : Xacts → ℕ → Option XactState
 status xacts xid = option_map state_of (xact_at xacts xid)
@@ -64,6 +76,10 @@ is_running xacts xid = is_some (session_at xacts xid)
 -- whether an xid has committed
 abbrev pub is_committed : Xacts → ℕ → Bool
 is_committed xacts xid = is_some (commit_number xacts xid)
+
+-- whether an xid has aborted
+abbrev pub is_aborted : Xacts → ℕ → Bool
+is_aborted xacts xid = option_map_or has_aborted (xact_at xacts xid) false
 
 -- of these transactions, the first of which has the given xid, the xids of those that run
 abbrev pub running_from : ℕ → Xacts → List ℕ

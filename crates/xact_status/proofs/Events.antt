@@ -1,11 +1,14 @@
 -- Which xids were given, which run and which have committed, after a transaction starts or ends.
 use Rattle.std.proofs.Common.{◌≡◌, ◌≢◌, ◌-◌, ℕ, true, false, cond, ◌⊎◌, [], ◌∷◌, Option, Some, None, is_some, slice_set, ◌==◌, refl, sym, ap, ◌∙◌, arith, inl, inr, length-append, length-set}
-use Rattle.std.specs.Option.{option_and_then, option_map_or}
+use Rattle.std.specs.Option.{option_and_then, option_map, option_map_or}
 use Rattle.std.proofs.lemmas.Bool.{cases_eq}
+use Rattle.std.proofs.lemmas.Option.{same_Some}
 use Rattle.std.proofs.lemmas.Bool.Decides.{nat_tests}
 use Rattle.xact_status.specs.declared.Xact.{Xact}
 use Rattle.xact_status.specs.declared.Xact.TheVariants.{Running, Committed, Aborted}
-use Rattle.xact_status.specs.Xacts.{Xacts, IsAssigned, xact_at, session_of, number_of, has_aborted, is_running, is_committed, is_aborted, next_xid, after_assign, after_commit, after_abort}
+use Rattle.xact_status.specs.declared.XactState.{XactState}
+use Rattle.xact_status.specs.declared.XactState.TheVariants as states
+use Rattle.xact_status.specs.Xacts.{Xacts, IsAssigned, xact_at, session_of, number_of, number_of_state, state_of, has_aborted, status, is_running, is_committed, is_aborted, next_xid, after_assign, after_commit, after_abort}
 use Rattle.xact_status.proofs.Places.{assigned_from_running, assigned_from_xact, xact_at_set, xact_at_push}
 use Rattle.xact_status.proofs.Numbers.{number_assign, number_commit, number_abort, number_running}
 
@@ -81,3 +84,32 @@ assigned_from_committed xacts xid committed = let found = some_xact (xact_at xac
     some_xact : (o : Option Xact) → is_some (option_and_then number_of o) ≡ true → (xact : Xact) × (o ≡ Some xact)
     some_xact None e = absurd (cc)
     some_xact (Some xact) e = (xact, refl)
+
+-- what `status` answers tells whether an xid has committed
+pub committed_from_status : (xacts : Xacts) (xid : ℕ) (state : XactState) → status xacts xid ≡ Some state → is_committed xacts xid ≡ is_some (number_of_state state)
+committed_from_status xacts xid state is = of_xact (xact_at xacts xid) is
+  where
+    of_xact : (o : Option Xact) → option_map state_of o ≡ Some state → is_some (option_and_then number_of o) ≡ is_some (number_of_state state)
+    of_xact None e = absurd (cc)
+    of_xact (Some (Running session)) e = ap (λ s. is_some (number_of_state s)) (same_Some _ _ e)
+    of_xact (Some (Committed number)) e = ap (λ s. is_some (number_of_state s)) (same_Some _ _ e)
+    of_xact (Some Aborted) e = ap (λ s. is_some (number_of_state s)) (same_Some _ _ e)
+
+-- and the same of an xid that runs, and of one that has aborted
+pub running_from_status : (xacts : Xacts) (xid : ℕ) → status xacts xid ≡ Some states.Running → is_running xacts xid ≡ true
+running_from_status xacts xid is = of_xact (xact_at xacts xid) is
+  where
+    of_xact : (o : Option Xact) → option_map state_of o ≡ Some states.Running → is_some (option_and_then session_of o) ≡ true
+    of_xact None e = absurd (cc)
+    of_xact (Some (Running session)) e = refl
+    of_xact (Some (Committed number)) e = absurd (cc)
+    of_xact (Some Aborted) e = absurd (cc)
+
+pub aborted_from_status : (xacts : Xacts) (xid : ℕ) → status xacts xid ≡ Some states.Aborted → is_aborted xacts xid ≡ true
+aborted_from_status xacts xid is = of_xact (xact_at xacts xid) is
+  where
+    of_xact : (o : Option Xact) → option_map state_of o ≡ Some states.Aborted → option_map_or has_aborted o false ≡ true
+    of_xact None e = absurd (cc)
+    of_xact (Some (Running session)) e = absurd (cc)
+    of_xact (Some (Committed number)) e = absurd (cc)
+    of_xact (Some Aborted) e = refl

@@ -1,0 +1,6 @@
+pub mod Least
+pub mod Entries
+pub mod Moments
+pub mod Horizons
+pub mod Unseen
+mod Bodies

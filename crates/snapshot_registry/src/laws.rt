@@ -1,0 +1,31 @@
+//! What holds between the transactions and the snapshots taken from them, whatever happens: laws over
+//! the models of [`xact_status::XactTable`] and [`crate::SnapRegistry`], with a field for each event.
+
+ghost use Rattle.snapshot_registry.specs.Laws.{DeadIsUnseen, HorizonNeverFalls, SnapshotsAreMoments, SnapshotsStay, UnseenStaysUnseen};
+
+/// Each registered snapshot shows the transactions as they stood after some commit, and goes on to:
+/// an xid is committed in it exactly where it has committed with at most that commit's number.
+pub fn snapshots_are_moments()
+    ensures { SnapshotsAreMoments }
+{}
+
+/// What a registered snapshot shows as committed never changes.
+pub fn snapshots_stay()
+    ensures { SnapshotsStay }
+{}
+
+/// The horizon never falls.
+pub fn horizon_never_falls()
+    ensures { HorizonNeverFalls }
+{}
+
+/// A version that a committed transaction has ended and that no registered snapshot sees is seen by
+/// no later one.
+pub fn unseen_stays_unseen()
+    ensures { UnseenStaysUnseen }
+{}
+
+/// A version that is dead under the horizon is seen by no registered snapshot.
+pub fn dead_is_unseen()
+    ensures { DeadIsUnseen }
+{}

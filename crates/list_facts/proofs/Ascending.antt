@@ -1,8 +1,6 @@
 -- Lists of numbers that ascend: each number is above the one before it.
-use Rattle.std.proofs.Common.{◌≡◌, ◌<◌, ◌≤◌, ◌+◌, ◌-◌, ℕ, zero, suc, Bool, true, false, List, [], ◌∷◌, length, get_or, ◌==◌, refl, sym, ap, ◌∙◌, arith, add-one}
-use Rattle.std.specs.List.{list_any}
+use Rattle.std.proofs.Common.{◌<◌, ◌≤◌, ◌+◌, ℕ, zero, suc, List, [], ◌∷◌, length, get_or, arith, add-one}
 use Rattle.std.specs.List.Sorted.{IsStrictlyIncreasing}
-use Rattle.std.proofs.lemmas.Bool.Decides.{nat_tests}
 
 -- each number is at least the given one, and above the one before
 abbrev pub AscendsFrom : ℕ → List ℕ → Type 0

@@ -1,5 +1,5 @@
 -- What is registered under each id after an event, and what that says of all registered snapshots.
-use Rattle.std.proofs.Common.{◌≡◌, ◌≢◌, ◌<◌, ◌≤◌, ◌+◌, ◌-◌, ℕ, zero, suc, Bool, true, false, ◌⊎◌, List, [], ◌∷◌, ◌++◌, map, Option, Some, None, is_some, length, slice_get, slice_set, ◌==◌, nat_lt, if◌then◌else◌, refl, sym, ap, ◌∙◌, arith, inl, inr}
+use Rattle.std.proofs.Common.{◌≡◌, ◌≢◌, ◌<◌, ◌≤◌, ◌-◌, ℕ, zero, suc, Bool, true, false, ◌⊎◌, [], ◌∷◌, ◌++◌, Option, Some, None, is_some, length, slice_get, slice_set, ◌==◌, if◌then◌else◌, refl, sym, ap, ◌∙◌, arith, inl, inr}
 use mathlib.Core.Bool.{false≢true}
 use Rattle.std.specs.List.{list_any}
 use Rattle.std.specs.Option.{option_flatten, option_map, option_and_then}
@@ -12,7 +12,7 @@ use Rattle.list_facts.proofs.Pushed.{get_push_other}
 use Rattle.xact_status.specs.Xacts.{Xacts}
 use Rattle.snapshot_registry.specs.declared.Snapshot.{Snapshot}
 use Rattle.snapshot_registry.specs.declared.Held.{Held}
-use Rattle.snapshot_registry.specs.Snapshots.{Snaps, IsLeastFree, holds, held_at, is_registered, snapshots, least_free, with_entry, snapshot_now, after_take, one_more, one_less, after_share, after_release}
+use Rattle.snapshot_registry.specs.Snapshots.{Snaps, IsLeastFree, held_at, is_registered, snapshots, least_free, with_entry, snapshot_now, after_take, one_more, one_less, after_share, after_release}
 
 -- a registered id stands in the list
 pub registered_within : (snaps : Snaps) (id : ℕ) → is_registered snaps id ≡ true → id < length snaps

@@ -1,16 +1,16 @@
 -- The horizon is a greatest lower bound, and no event lowers it.
-use Rattle.std.proofs.Common.{◌≡◌, ◌<◌, ◌≤◌, ◌+◌, ◌-◌, ℕ, Bool, true, false, ◌||◌, ◌⊎◌, List, [], ◌∷◌, ◌++◌, map, Option, Some, None, length, slice_set, ◌==◌, refl, sym, ap, subst, ◌∙◌, arith, inl, inr, length-append, length-set}
+use Rattle.std.proofs.Common.{◌≡◌, ◌≤◌, ◌+◌, ◌-◌, ℕ, Bool, true, false, ◌||◌, ◌⊎◌, List, [], ◌∷◌, ◌++◌, map, Some, None, slice_set, ◌==◌, refl, sym, ap, subst, ◌∙◌, arith, inl, inr, length-append, length-set}
 use Rattle.std.specs.List.{list_any}
 use Rattle.std.proofs.lemmas.Bool.Decides.{nat_tests}
 use Rattle.std.proofs.lemmas.List.Folds.{list_any-append}
 use Rattle.xact_status.specs.declared.Xact.{Xact}
 use Rattle.xact_status.specs.declared.Xact.TheVariants.{Running, Committed, Aborted}
-use Rattle.xact_status.specs.Xacts.{Xacts, next_xid, first_xid, running_xids, is_running, session_of, commit_count, after_assign, after_commit, after_abort}
+use Rattle.xact_status.specs.Xacts.{Xacts, next_xid, running_xids, is_running, session_of, commit_count, after_assign, after_commit, after_abort}
 use Rattle.xact_status.proofs.Events.{running_assign, running_set}
 use Rattle.xact_status.proofs.RunningLists.{running_holds}
 use Rattle.snapshot_registry.specs.declared.Snapshot.{Snapshot}
 use Rattle.snapshot_registry.specs.declared.Held.{Held}
-use Rattle.snapshot_registry.specs.Snapshots.{Snaps, least, holds, snapshot_now, snapshots, held_at, horizon, after_take, after_share, after_release}
+use Rattle.snapshot_registry.specs.Snapshots.{Snaps, holds, snapshots, held_at, horizon, after_take, after_share, after_release}
 use Rattle.snapshot_registry.specs.Laws.{HorizonNeverFalls}
 use Rattle.snapshot_registry.proofs.Least.{least_below_start, least_below_held, least_greatest}
 use Rattle.snapshot_registry.proofs.Entries.{passing_snapshot, snapshot_passes, held_after_take, held_after_share, held_after_release}

@@ -1,6 +1,5 @@
 -- The least of a number and of a list of numbers.
-use Rattle.std.proofs.Common.{◌≡◌, ◌<◌, ◌≤◌, ◌+◌, ◌-◌, ℕ, zero, suc, min, Bool, true, false, List, [], ◌∷◌, ◌++◌, Option, Some, None, unwrap_or, length, get_or, slice_get, ◌==◌, refl, sym, ap, ◌∙◌, arith, inl, inr}
-use Rattle.std.specs.List.{list_any, fold}
+use Rattle.std.proofs.Common.{◌≡◌, ◌<◌, ◌≤◌, ℕ, suc, min, true, List, [], ◌∷◌, ◌++◌, unwrap_or, slice_get, refl, ap, ◌∙◌, arith, inl, inr}
 use Rattle.std.proofs.lemmas.Bool.{cases_eq}
 use Rattle.std.proofs.lemmas.Bool.Decides.{nat_tests}
 use Rattle.std.proofs.lemmas.Grind.{fold-append}

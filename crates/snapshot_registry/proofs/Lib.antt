@@ -3,4 +3,5 @@ pub mod Entries
 pub mod Moments
 pub mod Horizons
 pub mod Unseen
+pub mod Runs
 mod Bodies

@@ -1,19 +1,17 @@
 -- Each registered snapshot shows the table as it stood after some commit, and every event keeps that.
-use Rattle.std.proofs.Common.{◌≡◌, ◌≢◌, ◌<◌, ◌≤◌, ◌+◌, ◌-◌, ℕ, Bool, true, false, not, ◌&&◌, ◌||◌, cond, ◌⊎◌, List, [], ◌∷◌, ◌++◌, Option, Some, None, is_some, length, slice_set, ◌==◌, nat_lt, nat_le, refl, sym, ap, subst, ◌∙◌, arith, inl, inr, length-append, length-set}
+use Rattle.std.proofs.Common.{◌≡◌, ◌≢◌, ◌<◌, ◌≤◌, ◌+◌, ◌-◌, ℕ, Bool, true, false, not, ◌&&◌, cond, [], ◌∷◌, Option, Some, None, is_some, ◌==◌, nat_lt, nat_le, refl, sym, ap, subst, ◌∙◌, arith, inl, inr, length-append, length-set}
 use Rattle.std.specs.Option.{option_map_or}
 use Rattle.std.proofs.lemmas.Bool.{cases_eq}
 use Rattle.std.proofs.lemmas.Bool.Decides.{nat_tests}
 use Rattle.std.proofs.lemmas.Option.{none-some}
-use Rattle.xact_status.specs.declared.Xact.{Xact}
 use Rattle.xact_status.specs.declared.Xact.TheVariants.{Running, Committed, Aborted}
-use Rattle.xact_status.specs.Xacts.{Xacts, IsNumbered, IsAssigned, next_xid, first_xid, running_xids, is_running, is_committed, session_of, commit_number, commit_count, after_assign, after_commit, after_abort}
+use Rattle.xact_status.specs.Xacts.{Xacts, IsNumbered, next_xid, running_xids, is_running, is_committed, commit_number, commit_count, after_assign, after_commit, after_abort}
 use Rattle.xact_status.proofs.Numbers.{count_assign, count_commit, count_abort, number_assign, number_commit, number_abort, number_running, numbered_none, numbered_assign, numbered_commit, numbered_abort}
 use Rattle.xact_status.proofs.Events.{assigned_assign, assigned_set, running_assign, running_set, committed_assign, committed_commit, committed_abort, running_is_uncommitted, committed_is_over, assigned_from_committed}
 use Rattle.xact_status.proofs.Places.{assigned_from_running}
 use Rattle.xact_status.proofs.RunningLists.{running_holds}
 use Rattle.snapshot_registry.specs.declared.Snapshot.{Snapshot}
-use Rattle.snapshot_registry.specs.declared.Held.{Held}
-use Rattle.snapshot_registry.specs.Snapshots.{Snaps, holds, snapshot_now, committed_in, held_at, after_take, after_share, after_release}
+use Rattle.snapshot_registry.specs.Snapshots.{Snaps, holds, snapshot_now, committed_in, after_take, after_share, after_release}
 use Rattle.snapshot_registry.specs.Laws.{is_committed_by, ShowsMoment, IsTakenFrom, IsRegistryOf, SnapshotsAreMoments, SnapshotsStay}
 use Rattle.snapshot_registry.proofs.Least.{least_below_start, least_below_held}
 use Rattle.snapshot_registry.proofs.Entries.{held_after_take, held_after_share, held_after_release}

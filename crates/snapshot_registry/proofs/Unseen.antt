@@ -1,17 +1,14 @@
 -- A version that a committed transaction has ended and that no registered snapshot sees stays unseen, and what is dead under the horizon is unseen.
-use Rattle.std.proofs.Common.{◌≡◌, ◌<◌, ◌≤◌, ◌+◌, ◌-◌, ℕ, Bool, true, false, not, ◌&&◌, ◌||◌, cond, ◌⊎◌, List, [], ◌∷◌, ◌++◌, Option, Some, None, is_some, length, slice_set, ◌==◌, nat_lt, refl, sym, ap, subst, ◌∙◌, arith, inl, inr}
-use mathlib.Core.Bool.{false≢true}
+use Rattle.std.proofs.Common.{◌≡◌, ◌<◌, ◌≤◌, ℕ, Bool, true, false, not, ◌&&◌, ◌||◌, cond, ◌⊎◌, Option, Some, None, ◌==◌, nat_lt, refl, sym, ap, subst, ◌∙◌, arith, inl, inr}
 use Rattle.std.specs.Option.{option_map_or}
-use Rattle.std.proofs.lemmas.Bool.{cases_eq}
 use Rattle.std.proofs.lemmas.Bool.Decides.{nat_tests}
-use Rattle.std.proofs.lemmas.Option.{none-some, same_Some}
 use Rattle.xact_status.specs.Xacts.{Xacts, next_xid, running_xids, is_running, is_committed, is_aborted, after_assign, after_commit, after_abort}
 use Rattle.xact_status.specs.Versions.{is_dead}
 use Rattle.xact_status.proofs.Events.{committed_assign, committed_commit, committed_abort, committed_is_over, aborted_is_uncommitted, assigned_from_committed}
 use Rattle.xact_status.proofs.RunningLists.{running_holds}
 use Rattle.snapshot_registry.specs.declared.Snapshot.{Snapshot}
 use Rattle.snapshot_registry.specs.declared.Held.{Held}
-use Rattle.snapshot_registry.specs.Snapshots.{Snaps, holds, snapshot_now, snapshots, committed_in, takes_effect, sees, seen_by_any, held_at, horizon, is_protected, after_take, after_share, after_release}
+use Rattle.snapshot_registry.specs.Snapshots.{Snaps, holds, snapshot_now, committed_in, takes_effect, sees, seen_by_any, held_at, horizon, is_protected, after_take, after_share, after_release}
 use Rattle.snapshot_registry.specs.Laws.{IsTakenFrom, IsRegistryOf, IsUnseen, UnseenStaysUnseen, DeadIsUnseen}
 use Rattle.snapshot_registry.proofs.Entries.{no_snapshot_passes, snapshot_fails, held_after_take, held_after_share, held_after_release}
 use Rattle.snapshot_registry.proofs.Moments.{stays_assign, stays_commit, stays_abort}

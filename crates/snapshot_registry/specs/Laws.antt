@@ -1,11 +1,11 @@
 -- What holds between a table of transactions and the snapshots that were taken from it, and what each event keeps of it. An event is a start, a commit or an abort of a transaction, or a snapshot that is taken, shared or released.
-use Rattle.std.specs.Prelude.{◌≡◌, ℕ, ◌<◌, ◌≤◌, Bool, true, false, [], Option, Some, None, nat_le}
+use Rattle.std.specs.Prelude.{◌≡◌, ℕ, ◌<◌, ◌≤◌, Bool, true, false, [], Option, Some, nat_le}
 use Rattle.std.specs.Option.{option_map_or}
 use Rattle.xact_status.specs.Xacts.{Xacts, IsNumbered, IsAssigned, next_xid, is_running, is_committed, commit_number, commit_count, after_assign, after_commit, after_abort}
 use Rattle.xact_status.specs.Versions.{is_dead}
 use Rattle.snapshot_registry.specs.declared.Snapshot.{Snapshot}
 use Rattle.snapshot_registry.specs.declared.Held.{Held}
-use Rattle.snapshot_registry.specs.Snapshots.{Snaps, holds, snapshot_now, committed_in, sees, held_at, is_registered, seen_by_any, horizon, is_protected, after_take, after_share, after_release}
+use Rattle.snapshot_registry.specs.Snapshots.{Snaps, holds, snapshot_now, committed_in, sees, held_at, seen_by_any, horizon, is_protected, after_take, after_share, after_release}
 
 -- whether an xid has committed with a number of at most the given one
 abbrev pub is_committed_by : Xacts → ℕ → ℕ → Bool

@@ -4,7 +4,7 @@ use Rattle.std.specs.Prelude.{◌≡◌, ℕ, suc, ◌+◌, ◌-◌, ◌<◌, �
 use Rattle.std.specs.List.{list_any}
 use Rattle.std.specs.List.Sorted.{IsStrictlyIncreasing}
 use Rattle.std.specs.Option.{option_flatten, option_map, option_map_or}
-use Rattle.xact_status.specs.Xacts.{Xacts, next_xid, running_xids, is_running, is_committed, commit_number}
+use Rattle.xact_status.specs.Xacts.{Xacts, next_xid, running_xids, is_running, is_committed}
 use Rattle.snapshot_registry.specs.declared.Snapshot.{Snapshot}
 use Rattle.snapshot_registry.specs.declared.Held.{Held}
 

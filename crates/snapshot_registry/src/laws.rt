@@ -1,7 +1,9 @@
-//! What holds between the transactions and the snapshots taken from them, whatever happens: laws over
-//! the models of [`xact_status::XactTable`] and [`crate::SnapRegistry`], with a field for each event.
+//! What holds between the transactions and the snapshots taken from them, whatever happens: laws
+//! over the models of [`xact_status::XactTable`] and [`crate::SnapRegistry`], with a field for each
+//! event.
 
 ghost use Rattle.snapshot_registry.specs.Laws.{DeadIsUnseen, HorizonNeverFalls, SnapshotsAreMoments, SnapshotsStay, UnseenStaysUnseen};
+ghost use Rattle.snapshot_registry.specs.Runs.{HoldsInEveryRun};
 
 /// Each registered snapshot shows the transactions as they stood after some commit, and goes on to:
 /// an xid is committed in it exactly where it has committed with at most that commit's number.
@@ -28,4 +30,11 @@ pub fn unseen_stays_unseen()
 /// A version that is dead under the horizon is seen by no registered snapshot.
 pub fn dead_is_unseen()
     ensures { DeadIsUnseen }
+{}
+
+/// After every list of calls, from an empty table and registry on, each registered snapshot shows the
+/// transactions as they stood after some commit; and from any moment on no list of calls lowers the
+/// horizon, or lets a snapshot see a version that had been ended and was unseen.
+pub fn hold_in_every_run()
+    ensures { HoldsInEveryRun }
 {}

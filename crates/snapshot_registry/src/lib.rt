@@ -34,11 +34,11 @@ pub struct Snapshot {
     pub running: XidList,
 }
 
-/// A registered snapshot, with the number of those who hold it.
+/// A registered snapshot, with the number of those who hold it, at least 1.
 #[derive(Debug, Drop)]
 pub struct Held {
-    snapshot: Snapshot,
-    holders: u32,
+    pub snapshot: Snapshot,
+    pub holders: u32,
 }
 
 /// The id of a registered snapshot. Contracts see a number.

@@ -1,4 +1,4 @@
-use Rattle.std.proofs.Common.{◌∙◌, ap, arith, sym, subst}
+use Rattle.std.proofs.Common.{arith, sym, subst}
 use Rattle.snapshot_registry.specs.Snapshots.{IsSound}
 use Rattle.snapshot_registry.proofs.Bodies.{sound_entry}
 use Rattle.snapshot_registry.proofs.SnapRegistry.seen_by_any.Goals as goal

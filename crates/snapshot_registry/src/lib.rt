@@ -9,11 +9,11 @@
 
 pub mod laws;
 
-ghost use Rattle.std.specs.Prelude.{◌≡◌, ◌+◌, ◌<◌, ◌≤◌, ◌^◌, [], IfOk, IsSome, IsTrue, OnErr, OnOk, is_some, length};
-ghost use Rattle.std.specs.List.{list_any};
+ghost use Rattle.std.specs.Prelude.{◌≡◌, ◌<◌, ◌≤◌, [], IfOk, IsTrue, OnErr, OnOk, is_some, length};
 ghost use Rattle.std.specs.List.Sorted.{IsStrictlyIncreasing};
 ghost use Rattle.std.specs.Option.{ForSome, option_and_then, option_map};
 ghost use Rattle.xact_status.specs.Xacts.{IsAssigned, number_of_state};
+ghost use Rattle.snapshot_registry.specs.Snapshots.{IsLeastFree, after_release, after_share, after_take, committed_in, holders_at, holds, horizon, is_registered, least_free, one_less, one_more, seen_by_any, sees, sees_at, snapshot_now, takes_effect, with_entry};
 
 use list_facts::ListOf;
 use std::alloc::{AllocError, Global};
@@ -76,8 +76,6 @@ impl Model for SnapRegistry {
 }
 
 impl Snapshot {
-    ghost use Rattle.snapshot_registry.specs.Snapshots.{committed_in, holds, sees, snapshot_now, takes_effect};
-
     // The snapshot of this moment.
     fn now(alloc: Global, xacts: &XactTable) -> Result<Snapshot, AllocError>
         ensures taken { IfOk result (λ snapshot. snapshot ≡ snapshot_now xacts.now) }
@@ -141,8 +139,6 @@ impl Snapshot {
 }
 
 impl SnapRegistry {
-    ghost use Rattle.snapshot_registry.specs.Snapshots.{IsLeastFree, after_release, after_share, after_take, holders_at, horizon, is_registered, least_free, seen_by_any, sees_at};
-
     /// A registry with no snapshot, which takes no memory yet.
     pub fn new(alloc: Global) -> Self
         ensures { result ≡ [] }
@@ -174,7 +170,7 @@ impl SnapRegistry {
     /// Adds a holder to a registered snapshot.
     pub fn share(&mut self, id: SnapId)
         requires registered { IsTrue (is_registered self.old id) }
-        requires countable { holders_at self.old id < 4294967295 }
+        requires countable { holders_at self.old id < u32.MAX }
         ensures { self.new ≡ after_share self.old id }
     {
         add_holder(&mut self.entries[id.0 as usize]);
@@ -248,8 +244,6 @@ fn is_committed(state: XactState) -> bool
     matches!(state, XactState::Committed { .. })
 }
 
-ghost use Rattle.snapshot_registry.specs.Snapshots.{least_free, one_less, one_more, with_entry};
-
 // The least id that is free.
 fn first_free(entries: &[Option<Held>]) -> usize
     ensures id { result ≡ least_free entries.now }
@@ -278,7 +272,7 @@ fn write_entry(entries: &mut Vec<Option<Held>>, id: usize, held: Held) -> Result
 }
 
 fn add_holder(entry: &mut Option<Held>)
-    requires { ForSome entry.old (λ held. held.holders < 4294967295) }
+    requires { ForSome entry.old (λ held. held.holders < u32.MAX) }
     ensures { entry.new ≡ option_map one_more entry.old }
 {
     if let Some(held) = entry {

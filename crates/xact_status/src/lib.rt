@@ -39,7 +39,7 @@ impl Xact {
         ensures { result ≡ state_of self }
     {
         match self {
-            Xact::Running { session: _ } => XactState::Running,
+            Xact::Running { .. } => XactState::Running,
             Xact::Committed { number } => XactState::Committed { number },
             Xact::Aborted => XactState::Aborted,
         }

@@ -13,6 +13,7 @@ use Rattle.xact_status.specs.Xacts.{Xacts}
 use Rattle.snapshot_registry.specs.declared.Snapshot.{Snapshot}
 use Rattle.snapshot_registry.specs.declared.Held.{Held}
 use Rattle.snapshot_registry.specs.Snapshots.{Snaps, IsLeastFree, held_at, is_registered, snapshots, least_free, with_entry, snapshot_now, after_take, one_more, one_less, after_share, after_release}
+use Rattle.snapshot_registry.specs.Laws.{RegistryIsAMap}
 
 -- a registered id stands in the list
 pub registered_within : (snaps : Snaps) (id : ℕ) → is_registered snaps id ≡ true → id < length snaps
@@ -68,11 +69,24 @@ free_at_least (Some held ∷ snaps) = free_at_least snaps
 pub least_free_is_least : (snaps : Snaps) → IsLeastFree snaps (least_free snaps)
 least_free_is_least snaps = record { free = free_at_least snaps; least = registered_below snaps }
 
+-- what is registered under each id after a snapshot is taken, shared or released
+pub held_at_take : (xacts : Xacts) (snaps : Snaps) (id : ℕ) → held_at (after_take snaps xacts) id ≡ (if id == least_free snaps then Some (record { snapshot = snapshot_now xacts; holders = 1 }) else held_at snaps id)
+held_at_take xacts snaps id = held_at_with snaps (least_free snaps) (Some (record { snapshot = snapshot_now xacts; holders = 1 })) (least_free_within snaps) id
+
+pub held_at_share : (snaps : Snaps) (shared id : ℕ) → is_registered snaps shared ≡ true → held_at (after_share snaps shared) id ≡ (if id == shared then option_map one_more (held_at snaps shared) else held_at snaps id)
+held_at_share snaps shared id registered = held_at_set snaps shared (option_map one_more (held_at snaps shared)) (registered_within snaps shared registered) id
+
+pub held_at_release : (snaps : Snaps) (released id : ℕ) → is_registered snaps released ≡ true → held_at (after_release snaps released) id ≡ (if id == released then option_and_then one_less (held_at snaps released) else held_at snaps id)
+held_at_release snaps released id registered = held_at_set snaps released (option_and_then one_less (held_at snaps released)) (registered_within snaps released registered) id
+
+pub registry_is_a_map : RegistryIsAMap
+registry_is_a_map = record { free_is_least = least_free_is_least; taken = held_at_take; shared = held_at_share; released = held_at_release }
+
 -- what is registered after a snapshot is taken shows this moment, or was registered before
 pub held_after_take : (snaps : Snaps) (xacts : Xacts) (other : ℕ) (held : Held) → held_at (after_take snaps xacts) other ≡ Some held → (held.snapshot ≡ snapshot_now xacts) ⊎ (held_at snaps other ≡ Some held)
 held_after_take snaps xacts other held is =
     let new : Held = record { snapshot = snapshot_now xacts; holders = 1 } in
-    let entry = held_at_with snaps (least_free snaps) (Some new) (least_free_within snaps) other in
+    let entry = held_at_take xacts snaps other in
     elim (cases_eq other (least_free snaps)) [
       | inl same ↦ let here : Some new ≡ Some held = sym (entry ∙ grind (arith, nat_tests)) ∙ is in inl (sym (ap (λ (h : Held). h.snapshot) (same_Some new held here)))
       | inr differ ↦ inr (sym (entry ∙ grind (arith, nat_tests)) ∙ is)

@@ -1,11 +1,18 @@
 -- What holds between a table of transactions and the snapshots that were taken from it, and what each event keeps of it. An event is a start, a commit or an abort of a transaction, or a snapshot that is taken, shared or released.
-use Rattle.std.specs.Prelude.{◌≡◌, ℕ, ◌<◌, ◌≤◌, Bool, true, false, [], Option, Some, nat_le}
-use Rattle.std.specs.Option.{option_map_or}
+use Rattle.std.specs.Prelude.{◌≡◌, ℕ, ◌<◌, ◌≤◌, Bool, true, false, [], Option, Some, nat_le, ◌==◌, if◌then◌else◌}
+use Rattle.std.specs.Option.{option_and_then, option_map, option_map_or}
 use Rattle.xact_status.specs.Xacts.{Xacts, IsNumbered, IsAssigned, next_xid, is_running, is_committed, commit_number, commit_count, after_assign, after_commit, after_abort}
 use Rattle.xact_status.specs.Versions.{is_dead}
 use Rattle.snapshot_registry.specs.declared.Snapshot.{Snapshot}
 use Rattle.snapshot_registry.specs.declared.Held.{Held}
-use Rattle.snapshot_registry.specs.Snapshots.{Snaps, holds, snapshot_now, committed_in, sees, held_at, seen_by_any, horizon, is_protected, after_take, after_share, after_release}
+use Rattle.snapshot_registry.specs.Snapshots.{Snaps, IsLeastFree, is_registered, least_free, one_more, one_less, holds, snapshot_now, committed_in, sees, held_at, seen_by_any, horizon, is_protected, after_take, after_share, after_release}
+
+-- each call changes what is registered under one id, and nothing under any other
+pub record RegistryIsAMap : Type 0 where
+  pub free_is_least : (snaps : Snaps) → IsLeastFree snaps (least_free snaps)
+  pub taken : (xacts : Xacts) (snaps : Snaps) (id : ℕ) → held_at (after_take snaps xacts) id ≡ (if id == least_free snaps then Some (record { snapshot = snapshot_now xacts; holders = 1 }) else held_at snaps id)
+  pub shared : (snaps : Snaps) (shared id : ℕ) → is_registered snaps shared ≡ true → held_at (after_share snaps shared) id ≡ (if id == shared then option_map one_more (held_at snaps shared) else held_at snaps id)
+  pub released : (snaps : Snaps) (released id : ℕ) → is_registered snaps released ≡ true → held_at (after_release snaps released) id ≡ (if id == released then option_and_then one_less (held_at snaps released) else held_at snaps id)
 
 -- whether an xid has committed with a number of at most the given one
 abbrev pub is_committed_by : Xacts → ℕ → ℕ → Bool

@@ -2,8 +2,13 @@
 //! over the models of [`xact_status::XactTable`] and [`crate::SnapRegistry`], with a field for each
 //! event.
 
-ghost use Rattle.snapshot_registry.specs.Laws.{DeadIsUnseen, HorizonNeverFalls, SnapshotsAreMoments, SnapshotsStay, UnseenStaysUnseen};
+ghost use Rattle.snapshot_registry.specs.Laws.{DeadIsUnseen, HorizonNeverFalls, RegistryIsAMap, SnapshotsAreMoments, SnapshotsStay, UnseenStaysUnseen};
 ghost use Rattle.snapshot_registry.specs.Runs.{HoldsInEveryRun};
+
+/// The registry is a map from ids: each call changes what is registered under one id and nothing else.
+pub fn registry_is_a_map()
+    ensures { RegistryIsAMap }
+{}
 
 /// Each registered snapshot shows the transactions as they stood after some commit, and goes on to:
 /// an xid is committed in it exactly where it has committed with at most that commit's number.

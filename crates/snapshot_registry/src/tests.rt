@@ -38,7 +38,8 @@ fn commit(rt: &impl Abort, table: &mut XactTable, xid: u64) {
     table.commit(xid);
 }
 
-// Three transactions in every order. A small letter is the first write of one, with which it gets its
+// Three transactions in every order. Their beginnings are left out, since a transaction is unknown
+// here until it writes. A small letter is the first write of one, with which it gets its
 // xid, a capital its commit. Transactions are named in the order of their first writes, so a has the
 // xid 3, b 4 and c 5. Beside each order stands, for a snapshot taken before the first step and after
 // each, which of their changes a reader with that snapshot sees: those that were committed before it

@@ -84,3 +84,17 @@ pub record UnseenStaysUnseen : Type 0 where
 pub record DeadIsUnseen : Type 0 where
   pub unseen : (xacts : Xacts) (snaps : Snaps) (bound inserter : ℕ) (ender : Option ℕ) → IsRegistryOf xacts snaps → bound ≤ horizon xacts snaps → is_dead xacts bound inserter ender ≡ true → seen_by_any xacts snaps inserter ender ≡ false
   pub unprotected : (xacts : Xacts) (snaps : Snaps) (bound inserter : ℕ) (ender : Option ℕ) → IsRegistryOf xacts snaps → bound ≤ horizon xacts snaps → is_dead xacts bound inserter ender ≡ true → is_running xacts inserter ≡ false → is_protected xacts snaps inserter ender ≡ false
+
+-- a version whose inserter was given an xid, and that need not be kept
+pub record IsUnprotected (xacts : Xacts) (snaps : Snaps) (inserter : ℕ) (ender : Option ℕ) : Type 0 where
+  pub given : IsAssigned xacts inserter
+  pub unprotected : is_protected xacts snaps inserter ender ≡ false
+
+-- no event makes such a version one that must be kept
+pub record UnprotectedStays : Type 0 where
+  pub taken : (xacts : Xacts) (snaps : Snaps) (inserter : ℕ) (ender : Option ℕ) → IsUnprotected xacts snaps inserter ender → IsUnprotected xacts (after_take snaps xacts) inserter ender
+  pub shared : (xacts : Xacts) (snaps : Snaps) (id inserter : ℕ) (ender : Option ℕ) → IsUnprotected xacts snaps inserter ender → IsUnprotected xacts (after_share snaps id) inserter ender
+  pub released : (xacts : Xacts) (snaps : Snaps) (id inserter : ℕ) (ender : Option ℕ) → IsUnprotected xacts snaps inserter ender → IsUnprotected xacts (after_release snaps id) inserter ender
+  pub assigned : (xacts : Xacts) (snaps : Snaps) (session inserter : ℕ) (ender : Option ℕ) → IsRegistryOf xacts snaps → IsUnprotected xacts snaps inserter ender → IsUnprotected (after_assign xacts session) snaps inserter ender
+  pub committed : (xacts : Xacts) (snaps : Snaps) (xid inserter : ℕ) (ender : Option ℕ) → is_running xacts xid ≡ true → IsRegistryOf xacts snaps → IsUnprotected xacts snaps inserter ender → IsUnprotected (after_commit xacts xid) snaps inserter ender
+  pub aborted : (xacts : Xacts) (snaps : Snaps) (xid inserter : ℕ) (ender : Option ℕ) → is_running xacts xid ≡ true → IsRegistryOf xacts snaps → IsUnprotected xacts snaps inserter ender → IsUnprotected (after_abort xacts xid) snaps inserter ender

@@ -2,7 +2,7 @@
 //! over the models of [`xact_status::XactTable`] and [`crate::SnapRegistry`], with a field for each
 //! event.
 
-ghost use Rattle.snapshot_registry.specs.Laws.{DeadIsUnseen, HorizonNeverFalls, RegistryIsAMap, SnapshotsAreMoments, SnapshotsStay, UnseenStaysUnseen};
+ghost use Rattle.snapshot_registry.specs.Laws.{DeadIsUnseen, HorizonNeverFalls, RegistryIsAMap, SnapshotsAreMoments, SnapshotsStay, UnprotectedStays, UnseenStaysUnseen};
 ghost use Rattle.snapshot_registry.specs.Runs.{HoldsInEveryRun};
 
 /// The registry is a map from ids: each call changes what is registered under one id and nothing else.
@@ -35,6 +35,11 @@ pub fn unseen_stays_unseen()
 /// A version that is dead under the horizon is seen by no registered snapshot.
 pub fn dead_is_unseen()
     ensures { DeadIsUnseen }
+{}
+
+/// A version that need not be kept is never again one that must be.
+pub fn unprotected_stays()
+    ensures { UnprotectedStays }
 {}
 
 /// After every list of calls, from an empty table and registry on, each registered snapshot shows the

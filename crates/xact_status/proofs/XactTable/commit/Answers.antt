@@ -1,0 +1,9 @@
+use Rattle.xact_status.proofs.Numbers.{kept_commit}
+use Rattle.xact_status.proofs.XactTable.commit.Goals as goal
+
+-- the commit has the next number, and the list of those that run is that of the new transactions
+pub invariant_of-self : goal.invariant_of-self
+invariant_of-self c = kept_commit _ _ _ _ _ _ (rw c.self.view_is c.requires) c.self.invariant c.end.ensures.ended c.end.ensures.kept
+
+pub returns-clause-numbered : goal.returns-clause-numbered
+returns-clause-numbered c = (kept_commit _ _ _ _ _ _ (rw c.self.view_is c.requires) c.self.invariant c.end.ensures.ended c.end.ensures.kept).numbered

@@ -1,0 +1,2 @@
+pub mod Xacts
+pub mod Versions

@@ -1,7 +1,7 @@
 // From a script's bytes to its commands.
-ghost use Rattle.std.specs.Prelude.{◌≡◌, ◌==◌, ◌<◌, ◌∷◌, [], IfOk, IfSome, MatchOption, length};
+ghost use Rattle.std.specs.Prelude.{◌≡◌, ◌==◌, ◌<◌, ◌≤◌, ◌∷◌, [], IfOk, IfSome, MatchOption, length};
 ghost use Rattle.std.specs.Fmt.{signed_decimal};
-ghost use Rattle.std.specs.List.{slice_split, position_or_len};
+ghost use Rattle.std.specs.List.{slice_split, position_from, position_or_len};
 ghost use Rattle.std.specs.Str.{bytes_eq};
 ghost use Rattle.session_shell.specs.Parsed.{Parses};
 ghost use Rattle.session_shell.specs.Script.{command_of, get_of, insert_of, key_of, rest_of, row_of, script_of, session_of, value_of};
@@ -102,12 +102,16 @@ fn cut_line(bytes: &[u8]) -> Option<(&[u8], &[u8])>
 
 // Where this byte stands first, or the number of bytes.
 fn first_place(bytes: &[u8], byte: u8) -> usize
-    ensures { result ≡ position_or_len (λ b. b == byte) bytes.now }
+    ensures place { result ≡ position_or_len (λ b. b == byte) bytes.now }
+    ensures within { result ≤ length bytes.now }
 {
-    bytes
-        .iter()
-        .position(|b| *b == byte)
-        .unwrap_or(bytes.len())
+    place_of(bytes, byte).unwrap_or(bytes.len())
+}
+
+fn place_of(bytes: &[u8], byte: u8) -> Option<usize>
+    ensures { result ≡ position_from (λ b. b == byte) 0 bytes.now }
+{
+    bytes.iter().position(|b| *b == byte)
 }
 
 // The command that a line spells.

@@ -1,0 +1,5 @@
+pub mod Keys
+pub mod Cuts
+pub mod Commands
+pub mod Transcripts
+pub mod Outcomes

@@ -1,16 +1,17 @@
 -- What is printed, an item at a time.
-use Rattle.std.proofs.Common.{◌≡◌, ◌<◌, ◌+◌, ℕ, List, [], ◌∷◌, ◌++◌, length, get_or, drop, refl, sym, ap, ◌∙◌, arith, subst, append_assoc, add-one, drop-cons, suc}
+use Rattle.std.proofs.Common.{◌≡◌, ◌<◌, ◌+◌, ℕ, List, [], ◌∷◌, ◌++◌, length, get_or, drop, refl, sym, ap, ◌∙◌, arith, subst, append_assoc, add-one, drop-cons, suc, append-nil, ◌≤◌}
+use Rattle.std.proofs.lemmas.List.{drop_all}
 use Rattle.std.specs.List.{flat_map}
-use Rattle.command_set.specs.Plain.{Plain}
+use Rattle.command_set.specs.Plain.{Plain, first_state}
 use Rattle.command_set.specs.declared.Command.{Command}
 use Rattle.command_set.specs.declared.Reply.{Reply}
 use Rattle.toast_core.specs.State.{CoreState}
 use Rattle.toast_core.specs.Stands.{Stands, Answers, one_table}
-use Rattle.session_shell.specs.Lines.{line_of, lines_from, replies_from}
+use Rattle.session_shell.specs.Lines.{line_of, lines_from, replies_from, text_of}
 
 -- the rest of a list begins with the item at its place
 pub rest_is : {X : Type 0} (xs : List X) (i : ℕ) (x : X) → i < length xs → x ≡ get_or xs i x → drop i xs ≡ x ∷ drop (i + 1) xs
-rest_is xs i x h is = rw add-one (drop-cons xs i x ∙ ap (λ y. y ∷ drop (suc i) xs) (sym is))
+rest_is xs i x h is = rw add-one (drop-cons xs i x h ∙ ap (λ y. y ∷ drop (suc i) xs) (sym is))
 
 -- one more item's text
 pub one_more : {X : Type 0} (f : X → List ℕ) (xs : List X) (i : ℕ) (x : X) (all old new : List ℕ) → i < length xs → x ≡ get_or xs i x → old ++ flat_map f (drop i xs) ≡ all → new ≡ old ++ f x → new ++ flat_map f (drop (i + 1) xs) ≡ all
@@ -42,3 +43,19 @@ one_command core core' text text' number xs i command reply all h is on answers 
         ∙ ap (λ (commands : List Command). text ++ lines_from number (replies_from on.state commands)) (sym (rest_is xs i command h is))
         ∙ on.text_is;
     }
+
+-- no command is left
+pub at_end : (core : CoreState) (text : List ℕ) (number : ℕ) (xs : List Command) (i : ℕ) (all : List ℕ) → length xs ≤ i → GoesOn core text number (drop i xs) all → text ≡ all
+at_end core text number xs i all h on =
+    sym (append-nil text)
+    ∙ ap (λ (commands : List Command). text ++ lines_from number (replies_from on.state commands)) (sym (drop_all i xs h))
+    ∙ on.text_is
+
+-- before the first command
+pub at_start : (core : CoreState) (text : List ℕ) (commands : List Command) → Stands core (first_state 1) → text ≡ [] → GoesOn core text 1 commands (text_of commands)
+unfolding text_of
+at_start core text commands stands e = record {
+  state = first_state 1;
+  stands = stands;
+  text_is = ap (λ (bytes : List ℕ). bytes ++ lines_from 1 (replies_from (first_state 1) commands)) e;
+}

@@ -1,6 +1,6 @@
 -- The commands of a script are ones that the core does.
 use Rattle.std.proofs.Common.{◌≡◌, ℕ, ℤ, Bool, true, false, List, [], ◌∷◌, length, Option, Some, None, Result, Ok, Err, refl, sym, ap, ◌∙◌, subst}
-use Rattle.std.specs.Prelude.{option_and_then, nat_le, All, codes}
+use Rattle.std.specs.Prelude.{option_and_then, nat_le, All, codes, if◌then◌else◌}
 use Rattle.std.specs.Option.{option_map}
 use Rattle.std.specs.List.{AllByRecursion, slice_split}
 use Rattle.std.specs.Str.{bytes_eq}
@@ -48,3 +48,47 @@ insert_built (Some rest) = put_key _ _
 either_built : (one other : Option Command) → BuiltIf one → BuiltIf other → BuiltIf (or_else one other)
 either_built None other h k = k
 either_built (Some command) other h k = h
+
+choose_built : (begins commits table : Bool) (other : Option Command) → BuiltIf other → BuiltIf (if begins then Some (Begin Rc) else if commits then Some Commit else if table then other else None)
+choose_built true commits table other h = refl
+choose_built false true table other h = tt
+choose_built false false true other h = h
+choose_built false false false other h = tt
+
+line_built : (table : Bool) (line : List ℕ) → BuiltIf (command_of table line)
+line_built table line = choose_built _ _ table (or_else (get_of line) (insert_of line)) (either_built (get_of line) (insert_of line) (get_built _) (insert_built _))
+
+first_built : (first : Option Command) (more : Option (List Command)) → BuiltIf first → AllBuiltIf more → AllBuiltIf (with_first first more)
+first_built None more h k = tt
+first_built (Some command) None h k = tt
+first_built (Some command) (Some commands) h k = (h, k)
+
+provided_built : (test : Bool) (commands : List Command) → AllByRecursion IsBuilt commands → AllBuiltIf (provided test commands)
+provided_built true commands h = h
+provided_built false commands h = tt
+
+lines_built : (table : Bool) (parts : List (List ℕ)) → AllBuiltIf (commands_of table parts)
+lines_built table [] = tt
+lines_built table (end ∷ []) = provided_built _ [] tt
+lines_built table (line ∷ next ∷ more) = first_built (command_of table line) (commands_of table (next ∷ more)) (line_built table line) (lines_built table (next ∷ more))
+
+few_built : (commands : Option (List Command)) → AllBuiltIf commands → AllBuiltIf (option_and_then few commands)
+few_built None h = tt
+few_built (Some commands) h = provided_built _ commands h
+
+session_built : (table : Bool) (bytes : Option (List ℕ)) → AllBuiltIf (option_and_then (session_of table) bytes)
+session_built table None = tt
+session_built table (Some bytes) = few_built _ (lines_built table _)
+
+rest_built : (table : Bool) (bytes : List ℕ) → AllBuiltIf (rest_of table bytes)
+rest_built table [] = tt
+rest_built table (b ∷ bytes) = session_built table _
+
+table_built : (bytes : List ℕ) (rest : Option (List ℕ)) → AllBuiltIf (with_table bytes rest)
+table_built bytes None = rest_built false bytes
+table_built bytes (Some rest) = rest_built true rest
+
+-- the commands of a script are ones that the core does
+pub script_built : (bytes : List ℕ) (commands : List Command) → script_of bytes ≡ Some commands → All IsBuilt commands
+unfolding script_of
+script_built bytes commands e = All-from_recursion IsBuilt commands (subst AllBuiltIf e (table_built bytes (after (codes "table e\n") bytes)))

@@ -35,6 +35,7 @@ impl From<AllocError> for ParseFault {
 }
 
 /// The commands of a script.
+#[tactic(auto, unfolding(crate::specs::Script::script_of))]
 pub fn parse_script(alloc: Global, bytes: &[u8]) -> Result<CommandList, ParseFault>
     ensures { Parses (script_of bytes.now) result }
 {

@@ -1,5 +1,5 @@
 // The top call.
-ghost use Rattle.std.specs.Prelude.{◌≡◌, ◌≢◌, ◌↔◌, ◌⊎◌, ℕ, List, IsSome, IsErrOf, IsTrue, Some, None};
+ghost use Rattle.std.specs.Prelude.{◌≡◌, ◌≢◌, ◌↔◌, ◌⊎◌, ℕ, List, IsErrOf, IsTrue, Some, None};
 ghost use Rattle.command_set.specs.declared.Command.{Command as AnyCommand};
 ghost use Rattle.toast_io.specs.Faults.{HasRisen, NeverFalls};
 ghost use Rattle.toast_io.specs.Source.{Takes};
@@ -40,7 +40,7 @@ pub fn toast_replay<S: Source, K: Sink>(
     ensures read_cause { result ≡ Status.ReadFault → HasRisen (S.faults source.old) (S.faults source.new) }
     ensures write_cause { result ≡ Status.WriteFault → HasRisen (K.faults sink.old) (K.faults sink.new) }
     ensures too_long { result ≡ Status.TooLong → Takes (S.left source.old) (S.left source.new) 4194305 }
-    ensures taken { IsSome (S.left source.old) → Takes (S.left source.old) (S.left source.new) 4194305 → result ≡ Status.TooLong }
+    ensures taken { (bytes : List ℕ) → S.left source.old ≡ Some bytes → Takes (S.left source.old) (S.left source.new) 4194305 → result ≡ Status.TooLong }
     ensures bad_script { IsBadScript result → ReadsNoScript (S.left source.old) (S.left source.new) }
 
     // Where bytes are told and no call fails: a script is done, and all else refused, unless memory runs out.

@@ -59,9 +59,9 @@ pub one_line : (table : Bool) (rest bytes line after : List ℕ) (commands grown
 one_line table rest bytes line after commands grown command on cut is more e =
     subst (ReadsOn table after bytes) (sym e) (record {
       whole =
-        grown_by commands command (commands_of table (parts_of after))
-        ∙ ap (λ (o : Option Command). option_map (λ (more : List Command). commands ++ more) (with_first o (commands_of table (parts_of after)))) is
-        ∙ line_read table rest bytes line after commands on cut;
+          grown_by commands command (commands_of table (parts_of after))
+          ∙ ap (λ (o : Option Command). option_map (λ (more : List Command). commands ++ more) (with_first o (commands_of table (parts_of after)))) is
+          ∙ line_read table rest bytes line after commands on cut;
       within = omega (arith, on.within, length-append commands (command ∷ []));
     })
 

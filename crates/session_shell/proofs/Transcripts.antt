@@ -37,11 +37,11 @@ one_command core core' text text' number xs i command reply all h is on answers 
       state = more;
       stands = told.1;
       text_is =
-        ap (λ (bytes : List ℕ). bytes ++ lines_from (number + 1) (replies_from more rest)) grown
-        ∙ append_assoc text (line_of number reply) (lines_from (number + 1) (replies_from more rest))
-        ∙ ap (λ (r : Reply). text ++ (line_of number r ++ lines_from (number + 1) (replies_from more rest))) told.0
-        ∙ ap (λ (commands : List Command). text ++ lines_from number (replies_from on.state commands)) (sym (rest_is xs i command h is))
-        ∙ on.text_is;
+          ap (λ (bytes : List ℕ). bytes ++ lines_from (number + 1) (replies_from more rest)) grown
+          ∙ append_assoc text (line_of number reply) (lines_from (number + 1) (replies_from more rest))
+          ∙ ap (λ (r : Reply). text ++ (line_of number r ++ lines_from (number + 1) (replies_from more rest))) told.0
+          ∙ ap (λ (commands : List Command). text ++ lines_from number (replies_from on.state commands)) (sym (rest_is xs i command h is))
+          ∙ on.text_is;
     }
 
 -- no command is left

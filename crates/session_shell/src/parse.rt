@@ -46,7 +46,12 @@ pub fn parse_script(alloc: Global, bytes: &[u8]) -> Result<CommandList, ParseFau
 }
 
 // The commands of what follows the table's line; `line` is the number of its first line.
-fn parse_rest(alloc: Global, table: bool, bytes: &[u8], line: u32) -> Result<CommandList, ParseFault>
+fn parse_rest(
+    alloc: Global,
+    table: bool,
+    bytes: &[u8],
+    line: u32,
+) -> Result<CommandList, ParseFault>
     ensures { Parses (rest_of table bytes.now) result }
 {
     if bytes.is_empty() {

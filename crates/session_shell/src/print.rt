@@ -23,7 +23,12 @@ pub fn transcript(alloc: Global, commands: &[Command]) -> Result<String, AllocEr
 }
 
 // Adds the line of the command with this number.
-fn push_line(alloc: Global, text: &mut String, number: usize, reply: &Reply) -> Result<(), AllocError>
+fn push_line(
+    alloc: Global,
+    text: &mut String,
+    number: usize,
+    reply: &Reply,
+) -> Result<(), AllocError>
     ensures { OnOk result (string_bytes text.new ≡ string_bytes text.old ++ line_of number reply.now) }
 {
     write!(text, "s1.{number} ")?;

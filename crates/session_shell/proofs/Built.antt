@@ -1,8 +1,8 @@
 -- The commands of a script are ones that the core does.
 use Rattle.std.proofs.Common.{◌≡◌, ℕ, ℤ, Bool, true, false, List, [], ◌∷◌, length, Option, Some, None, Result, Ok, Err, refl, sym, ap, ◌∙◌, subst}
-use Rattle.std.specs.Prelude.{option_and_then, nat_le, All, codes, if◌then◌else◌}
+use Rattle.std.specs.Prelude.{option_and_then, nat_le, All, codes, if◌then◌else◌, take, drop, ◌==◌}
 use Rattle.std.specs.Option.{option_map}
-use Rattle.std.specs.List.{AllByRecursion, slice_split}
+use Rattle.std.specs.List.{AllByRecursion, slice_split, position_or_len}
 use Rattle.std.specs.Str.{bytes_eq}
 use Rattle.std.proofs.lemmas.List.Elements.{All-from_recursion}
 use Rattle.command_set.specs.declared.Command.{Command}
@@ -43,7 +43,7 @@ put_key (Some key) digits = put_digits key digits
 
 insert_built : (rest : Option (List ℕ)) → BuiltIf (option_and_then row_of rest)
 insert_built None = tt
-insert_built (Some rest) = put_key _ _
+insert_built (Some rest) = put_key (key_of (take (position_or_len (λ b. b == 32) rest) rest)) (after (codes " x") (drop (position_or_len (λ b. b == 32) rest) rest))
 
 either_built : (one other : Option Command) → BuiltIf one → BuiltIf other → BuiltIf (or_else one other)
 either_built None other h k = k
@@ -56,7 +56,9 @@ choose_built false false true other h = h
 choose_built false false false other h = tt
 
 line_built : (table : Bool) (line : List ℕ) → BuiltIf (command_of table line)
-line_built table line = choose_built _ _ table (or_else (get_of line) (insert_of line)) (either_built (get_of line) (insert_of line) (get_built _) (insert_built _))
+line_built table line =
+    choose_built (bytes_eq line (codes "begin rc")) (bytes_eq line (codes "commit")) table (or_else (get_of line) (insert_of line))
+    (either_built (get_of line) (insert_of line) (get_built (after (codes "get t1 ") line)) (insert_built (after (codes "insert t1 ") line)))
 
 first_built : (first : Option Command) (more : Option (List Command)) → BuiltIf first → AllBuiltIf more → AllBuiltIf (with_first first more)
 first_built None more h k = tt
@@ -69,20 +71,20 @@ provided_built false commands h = tt
 
 lines_built : (table : Bool) (parts : List (List ℕ)) → AllBuiltIf (commands_of table parts)
 lines_built table [] = tt
-lines_built table (end ∷ []) = provided_built _ [] tt
+lines_built table (end ∷ []) = provided_built (length end == 0) [] tt
 lines_built table (line ∷ next ∷ more) = first_built (command_of table line) (commands_of table (next ∷ more)) (line_built table line) (lines_built table (next ∷ more))
 
 few_built : (commands : Option (List Command)) → AllBuiltIf commands → AllBuiltIf (option_and_then few commands)
 few_built None h = tt
-few_built (Some commands) h = provided_built _ commands h
+few_built (Some commands) h = provided_built (nat_le (length commands) 10000) commands h
 
 session_built : (table : Bool) (bytes : Option (List ℕ)) → AllBuiltIf (option_and_then (session_of table) bytes)
 session_built table None = tt
-session_built table (Some bytes) = few_built _ (lines_built table _)
+session_built table (Some bytes) = few_built (commands_of table (slice_split (λ b. b == 10) bytes)) (lines_built table (slice_split (λ b. b == 10) bytes))
 
 rest_built : (table : Bool) (bytes : List ℕ) → AllBuiltIf (rest_of table bytes)
 rest_built table [] = tt
-rest_built table (b ∷ bytes) = session_built table _
+rest_built table (b ∷ bytes) = session_built table (after (codes "session\n") (b ∷ bytes))
 
 table_built : (bytes : List ℕ) (rest : Option (List ℕ)) → AllBuiltIf (with_table bytes rest)
 table_built bytes None = rest_built false bytes

@@ -1,17 +1,13 @@
 -- What a replay's words and outcomes say.
-use Rattle.std.proofs.Common.{◌≡◌, ◌≢◌, ◌<◌, ◌≤◌, ◌+◌, ◌-◌, ◌⊎◌, inl, inr, ℕ, Bool, true, false, List, [], ◌∷◌, length, get_or, drop, take, length-drop, Option, Some, None, Result, Ok, Err, refl, sym, ap, ◌∙◌, arith, subst}
-use Rattle.std.specs.Prelude.{IsTrue, ◌↔◌, IsSome, is_some, All, IsErrOf}
+use Rattle.std.proofs.Common.{◌≡◌, ◌≤◌, ℕ, Bool, List, [], ◌∷◌, length, get_or, drop, length-drop, Option, Some, None, refl, sym, ap, ◌∙◌, arith, subst}
+use Rattle.std.specs.Prelude.{IsTrue, ◌↔◌}
 use Rattle.std.specs.Str.{bytes_eq}
 use Rattle.std.proofs.lemmas.Slice.Eq.{bytes_eq-Decides}
 use Rattle.std.proofs.Math.Seq.{drop-length}
-use Rattle.toast_io.specs.Faults.{HasRisen}
-use Rattle.toast_io.specs.Source.{Takes, TakesUpTo, ReadsToEnd}
+use Rattle.toast_io.specs.Source.{Takes, TakesUpTo}
 use Rattle.toast_io.specs.ReadAll.{IsWhole}
 use Rattle.toast_io.proofs.Told.{told_whole, told_taken}
-use Rattle.command_set.specs.declared.Command.{Command}
-use Rattle.toast_core.specs.Stands.{IsBuilt}
-use Rattle.session_shell.specs.Script.{script_of}
-use Rattle.session_shell.specs.Replay.{replay_words, Told, Replays, ReadsScript, ReadsNoScript, WritesText, WritesPart, TellsWhole, IsBadScript}
+use Rattle.session_shell.specs.Replay.{replay_words, Told, Replays}
 use Rattle.session_shell.specs.declared.Status.{Status}
 use Rattle.session_shell.specs.declared.Status.TheVariants.{Done, Usage, BadScript, ReadFault, WriteFault, TooLong, Memory}
 

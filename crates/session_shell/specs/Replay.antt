@@ -1,5 +1,5 @@
 -- What a replay leaves of its source and its sink, where they tell their bytes.
-use Rattle.std.specs.Prelude.{◌≡◌, ℕ, ◌≤◌, ◌⊎◌, List, [], ◌∷◌, length, Option, Some, None, Result, Ok, Err, codes}
+use Rattle.std.specs.Prelude.{◌≡◌, ℕ, ◌≤◌, List, [], ◌∷◌, length, Option, Some, None, Result, Ok, Err, codes}
 use Rattle.std.specs.Io.KnownBytes.{Appends}
 use Rattle.toast_io.specs.Faults.{HasRisen}
 use Rattle.toast_io.specs.Source.{Takes, TakesUpTo}

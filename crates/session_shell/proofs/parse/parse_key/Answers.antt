@@ -1,4 +1,3 @@
-use Rattle.std.proofs.Common.{refl}
 use Rattle.session_shell.proofs.Keys.{no_text, no_number}
 use Rattle.session_shell.proofs.parse.parse_key.Goals as goal
 

@@ -1,5 +1,4 @@
-use Rattle.std.proofs.Common.{◌≡◌, ◌≢◌, length, refl, sym, ap, ◌∙◌, arith}
-use Rattle.std.proofs.lemmas.Bool.Decides.{nat_tests}
+use Rattle.std.proofs.Common.{sym, ◌∙◌}
 use Rattle.session_shell.proofs.Commands.{begins, one_line, bad_line, too_many, all_read, cut_off}
 use Rattle.session_shell.proofs.parse.parse_session.Goals as goal
 

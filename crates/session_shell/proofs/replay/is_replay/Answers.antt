@@ -1,4 +1,4 @@
-use Rattle.std.proofs.Common.{◌≡◌, sym, ◌∙◌, arith}
+use Rattle.std.proofs.Common.{arith}
 use Rattle.session_shell.proofs.Outcomes.{one_word}
 use Rattle.session_shell.proofs.replay.is_replay.Goals as goal
 

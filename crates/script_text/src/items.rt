@@ -1,0 +1,54 @@
+// The items of a schedule as words.
+ghost use Rattle.std.specs.Prelude.{◌≡◌, ◌≤◌};
+ghost use Rattle.script_text.specs.Items.{item_in, items_in};
+ghost use Rattle.script_text.specs.Lines.{words};
+ghost use Rattle.script_text.specs.Reading.{Gives};
+
+use crate::fault::{LineFault, Refusal};
+use crate::lines::next_word;
+use crate::numbers::number;
+use crate::words::session;
+use command_set::{Item, ItemList};
+use memchr::memchr;
+use std::alloc::Global;
+
+// The item that a word spells, where there are so many sessions.
+pub fn item(sessions: usize, word: &[u8]) -> Result<Item, LineFault>
+    requires { sessions ≤ 64 }
+    ensures { result ≡ item_in sessions word.now }
+{
+    if let Some(word) = word.strip_suffix(b"!") {
+        let session = session(sessions, word)?;
+        return Ok(Item::Whole { session });
+    }
+    match memchr(b'*', word) {
+        Some(star) => {
+            let session = session(sessions, &word[..star])?;
+            match number(&word[star + 1..], 1, 100_000) {
+                Some(count) => Ok(Item::Times {
+                    session,
+                    count: count as u32,
+                }),
+                None => Err(LineFault::BadName),
+            }
+        }
+        None => {
+            let session = session(sessions, word)?;
+            Ok(Item::Once { session })
+        }
+    }
+}
+
+// The items that the words of a text spell.
+pub fn items(alloc: Global, sessions: usize, text: &[u8]) -> Result<ItemList, Refusal>
+    requires { sessions ≤ 64 }
+    ensures { Gives result (items_in sessions (words text.now)) }
+{
+    let mut items = ItemList::new(alloc);
+    let mut rest = text;
+    while let Some((word, others)) = next_word(rest) {
+        items.push(item(sessions, word)?)?;
+        rest = others;
+    }
+    Ok(items)
+}

@@ -1,5 +1,5 @@
 -- How bytes are cut into lines, and a line into words.
-use Rattle.std.specs.Prelude.{ℕ, ◌-◌, ◌==◌, ◌||◌, nat_lt, Bool, List, [], ◌∷◌, length, take, drop, if◌then◌else◌}
+use Rattle.std.specs.Prelude.{ℕ, ◌-◌, ◌==◌, ◌||◌, nat_lt, not, Bool, List, [], ◌∷◌, length, take, drop, if◌then◌else◌}
 use Rattle.std.specs.List.{slice_split, filter, before_first}
 use Rattle.std.specs.Str.{bytes_eq}
 
@@ -28,6 +28,10 @@ content line = before_first (λ b. b == 35) (without_return line)
 -- a space or a tab
 abbrev pub is_blank : ℕ → Bool
 is_blank b = b == 32 || b == 9
+
+-- any other byte
+abbrev pub is_solid : ℕ → Bool
+is_solid b = not (is_blank b)
 
 -- the words: what stands between spaces and tabs, unless it is empty
 unfoldable pub words : List ℕ → List (List ℕ)

@@ -5,9 +5,13 @@ use Rattle.std.specs.Option.{option_map}
 use Rattle.std.specs.Char.{is_ascii_digit}
 use Rattle.std.specs.Str.Parse.{digits_value, starts_with_minus}
 
+-- at least one byte, of which the first is `0` only where it stands alone
+abbrev pub is_led : List ℕ → Bool
+is_led word = nat_lt 0 (length word) && (length word == 1 || not (slice_index word 0 == 48))
+
 -- decimal digits, at least one, of which the first is 0 only where it stands alone
 abbrev pub is_canonical : List ℕ → Bool
-is_canonical word = nat_lt 0 (length word) && list_all is_ascii_digit word && (length word == 1 || not (slice_index word 0 == 48))
+is_canonical word = is_led word && list_all is_ascii_digit word
 
 -- the number from low to high that a word spells
 unfoldable pub number_in : ℕ → ℕ → List ℕ → Option ℕ

@@ -65,7 +65,8 @@ impl Draft {
     }
 
     // Adds a line of these words, where there are words. After an error the draft is of no more use.
-    pub fn add_words(&mut self, alloc: Global, text: &[u8]) -> Result<(), Refusal>
+    #[tactic(auto, unfolding(crate::specs::Scripts::with_words))]
+pub fn add_words(&mut self, alloc: Global, text: &[u8]) -> Result<(), Refusal>
         requires { Counts self.old }
         ensures { Leaves self.new result (with_words (script_of self.old) (words text.now)) }
     {
@@ -105,7 +106,8 @@ impl Draft {
     }
 
     // What a line of this form says.
-    fn line(&self, alloc: Global, form: Form, text: &[u8]) -> Result<Line, Refusal>
+    #[tactic(auto, unfolding(crate::specs::Scripts::line_in))]
+fn line(&self, alloc: Global, form: Form, text: &[u8]) -> Result<Line, Refusal>
         requires { Counts self.now }
         ensures { Gives result (line_in (script_of self.now) form (words text.now)) }
     {

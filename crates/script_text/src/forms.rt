@@ -41,23 +41,34 @@ pub enum Line {
 }
 
 // The form that a first word begins.
+#[tactic(auto, unfolding(crate::specs::Forms::form_in))]
 pub fn form_of(word: &[u8]) -> Option<Form>
     ensures { result ≡ form_in word.now }
 {
-    match word {
-        b"table" => Some(Form::Table),
-        b"session" => Some(Form::Session),
-        b"begin" => Some(Form::Begin),
-        b"commit" => Some(Form::Commit),
-        b"rollback" => Some(Form::Rollback),
-        b"get" => Some(Form::Get),
-        b"insert" => Some(Form::Insert),
-        b"go" => Some(Form::Go),
-        b"loop" => Some(Form::Loop),
-        _ => None,
+    if word == b"table".as_slice() {
+        Some(Form::Table)
+    } else if word == b"session".as_slice() {
+        Some(Form::Session)
+    } else if word == b"begin".as_slice() {
+        Some(Form::Begin)
+    } else if word == b"commit".as_slice() {
+        Some(Form::Commit)
+    } else if word == b"rollback".as_slice() {
+        Some(Form::Rollback)
+    } else if word == b"get".as_slice() {
+        Some(Form::Get)
+    } else if word == b"insert".as_slice() {
+        Some(Form::Insert)
+    } else if word == b"go".as_slice() {
+        Some(Form::Go)
+    } else if word == b"loop".as_slice() {
+        Some(Form::Loop)
+    } else {
+        None
     }
 }
 
+#[tactic(auto, unfolding(crate::specs::Forms::table_line))]
 pub fn table_of(alloc: Global, text: &[u8]) -> Result<Schema, Refusal>
     ensures { Gives result (table_line (words text.now)) }
 {
@@ -71,6 +82,7 @@ pub fn table_of(alloc: Global, text: &[u8]) -> Result<Schema, Refusal>
     }
 }
 
+#[tactic(auto, unfolding(crate::specs::Forms::begin_line))]
 pub fn begin(text: &[u8]) -> Result<Command, LineFault>
     ensures { result ≡ begin_line (words text.now) }
 {
@@ -82,6 +94,7 @@ pub fn begin(text: &[u8]) -> Result<Command, LineFault>
     }
 }
 
+#[tactic(auto, unfolding(crate::specs::Forms::bare_line))]
 pub fn commit(text: &[u8]) -> Result<Command, LineFault>
     ensures { result ≡ bare_line Command.Commit (words text.now) }
 {
@@ -89,6 +102,7 @@ pub fn commit(text: &[u8]) -> Result<Command, LineFault>
     Ok(Command::Commit)
 }
 
+#[tactic(auto, unfolding(crate::specs::Forms::bare_line))]
 pub fn rollback(text: &[u8]) -> Result<Command, LineFault>
     ensures { result ≡ bare_line Command.Rollback (words text.now) }
 {
@@ -113,6 +127,7 @@ fn insert_command(table: u16, key: &i64, row: Row) -> Command
     }
 }
 
+#[tactic(auto, unfolding(crate::specs::Forms::get_line))]
 pub fn get(schemas: &[Schema], text: &[u8]) -> Result<Command, LineFault>
     requires { length schemas.now ≤ 16 }
     ensures { result ≡ get_line schemas.now (words text.now) }
@@ -125,6 +140,7 @@ pub fn get(schemas: &[Schema], text: &[u8]) -> Result<Command, LineFault>
     }
 }
 
+#[tactic(auto, unfolding(crate::specs::Forms::insert_line))]
 pub fn insert(alloc: Global, schemas: &[Schema], text: &[u8]) -> Result<Command, Refusal>
     requires { length schemas.now ≤ 16 }
     ensures { Gives result (insert_line schemas.now (words text.now)) }
@@ -141,6 +157,7 @@ pub fn insert(alloc: Global, schemas: &[Schema], text: &[u8]) -> Result<Command,
     }
 }
 
+#[tactic(auto, unfolding(crate::specs::Forms::go_line))]
 pub fn go(alloc: Global, sessions: usize, text: &[u8]) -> Result<Passage, Refusal>
     requires { sessions ≤ 64 }
     ensures { Gives result (go_line sessions (words text.now)) }
@@ -150,6 +167,7 @@ pub fn go(alloc: Global, sessions: usize, text: &[u8]) -> Result<Passage, Refusa
     Ok(Passage { count: 1, items })
 }
 
+#[tactic(auto, unfolding(crate::specs::Forms::loop_line))]
 pub fn repeat(alloc: Global, sessions: usize, text: &[u8]) -> Result<Passage, Refusal>
     requires { sessions ≤ 64 }
     ensures { Gives result (loop_line sessions (words text.now)) }

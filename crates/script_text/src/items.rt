@@ -5,14 +5,14 @@ ghost use Rattle.script_text.specs.Lines.{words};
 ghost use Rattle.script_text.specs.Reading.{Gives};
 
 use crate::fault::{LineFault, Refusal};
-use crate::lines::next_word;
+use crate::lines::{cut_at, next_word};
 use crate::numbers::number;
 use crate::words::session;
 use command_set::{Item, ItemList};
-use memchr::memchr;
 use std::alloc::Global;
 
 // The item that a word spells, where there are so many sessions.
+#[tactic(auto, unfolding(crate::specs::Items::item_in))]
 pub fn item(sessions: usize, word: &[u8]) -> Result<Item, LineFault>
     requires { sessions ≤ 64 }
     ensures { result ≡ item_in sessions word.now }
@@ -21,21 +21,18 @@ pub fn item(sessions: usize, word: &[u8]) -> Result<Item, LineFault>
         let session = session(sessions, word)?;
         return Ok(Item::Whole { session });
     }
-    match memchr(b'*', word) {
-        Some(star) => {
-            let session = session(sessions, &word[..star])?;
-            match number(&word[star + 1..], 1, 100_000) {
-                Some(count) => Ok(Item::Times {
-                    session,
-                    count: count as u32,
-                }),
-                None => Err(LineFault::BadName),
-            }
-        }
-        None => {
-            let session = session(sessions, word)?;
-            Ok(Item::Once { session })
-        }
+    if !word.contains(&b'*') {
+        let session = session(sessions, word)?;
+        return Ok(Item::Once { session });
+    }
+    let (front, back) = cut_at(word, b'*');
+    let session = session(sessions, front)?;
+    match number(back, 1, 100_000) {
+        Some(count) => Ok(Item::Times {
+            session,
+            count: count as u32,
+        }),
+        None => Err(LineFault::BadName),
     }
 }
 
@@ -46,8 +43,9 @@ pub fn items(alloc: Global, sessions: usize, text: &[u8]) -> Result<ItemList, Re
 {
     let mut items = ItemList::new(alloc);
     let mut rest = text;
-    while let Some((word, others)) = next_word(rest) {
-        items.push(item(sessions, word)?)?;
+    'words: while let Some((word, others)) = next_word(rest) {
+        let found = item(sessions, word)?;
+        items.push(found)?;
         rest = others;
     }
     Ok(items)

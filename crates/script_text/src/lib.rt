@@ -32,7 +32,7 @@ pub fn parse_script(alloc: Global, bytes: &[u8]) -> Result<Script, ScriptFault>
     let mut draft = Draft::new(alloc);
     let mut line = 1u32;
     let mut rest = bytes;
-    while !rest.is_empty() {
+    'lines: while !rest.is_empty() {
         let (text, others) = cut_line(rest);
         match draft.add_words(alloc, content_of(text)) {
             Ok(()) => {}

@@ -55,6 +55,7 @@ pub fn first_word_of(text: &[u8], count: usize) -> Result<(&[u8], &[u8]), LineFa
 }
 
 // The number of a table that is there.
+#[tactic(auto, unfolding(crate::specs::Words::table_in))]
 pub fn table(schemas: &[Schema], word: &[u8]) -> Result<u16, LineFault>
     requires { length schemas.now ≤ 16 }
     ensures { result ≡ table_in schemas.now word.now }
@@ -79,6 +80,7 @@ pub fn columns(schemas: &[Schema], table: u16) -> usize
 }
 
 // The number of a session that is there.
+#[tactic(auto, unfolding(crate::specs::Words::session_in))]
 pub fn session(sessions: usize, word: &[u8]) -> Result<u16, LineFault>
     requires { sessions ≤ 64 }
     ensures { result ≡ session_in sessions word.now }

@@ -1,16 +1,19 @@
 -- Reading goes on behind what was read.
 use Rattle.std.proofs.Common.{◌≡◌, ◌++◌, ◌∷◌, [], ℕ, List, Option, Result, Ok, Err, refl, sym, ap, ◌∙◌, append_assoc}
-use Rattle.std.proofs.Common.{length, arith}
+use Rattle.std.proofs.Common.{length, arith, ◌==◌, Bool, true}
+use Rattle.std.proofs.lemmas.Bool.Decides.{nat_tests}
 use Rattle.command_set.specs.declared.Item.{Item}
 use Rattle.command_set.specs.declared.Script.{Script}
 use Rattle.script_text.specs.Lines.{content, lines, words}
 use Rattle.script_text.specs.Reading.{◌>>=◌, Gives}
 use Rattle.script_text.specs.Values.{value_in, values_in}
 use Rattle.script_text.specs.Items.{item_in, items_in}
-use Rattle.script_text.specs.Scripts.{after_lines, next_number, with_words}
+use Rattle.script_text.specs.Scripts.{Tells, after_lines, next_number, with_words}
+use Rattle.script_text.specs.Drafts.{Leaves}
+use Rattle.script_text.specs.Faults.{fault_at}
+use Rattle.script_text.specs.declared.draft.Draft.{Draft}
 use Rattle.script_text.specs.declared.fault.LineFault.{LineFault}
 use Rattle.script_text.specs.declared.fault.ScriptFault.{ScriptFault}
-use Rattle.script_text.specs.declared.fault.ScriptFault.TheVariants.{BadScript}
 use Rattle.script_text.specs.declared.fault.Refusal.{Refusal}
 use Rattle.script_text.specs.declared.fault.Refusal.TheVariants.{Fault, Memory}
 
@@ -65,10 +68,15 @@ unfolding after_lines
 lines_on n m script next before rest line text whole cut says is number h =
     rw number (rw (cut, ← says, is) at h)
 
--- a bad line
-pub lines_bad : (n : ℕ) (fault : LineFault) (script : Script) (before rest : List (List ℕ)) (line text : List ℕ) (whole : Result Script ScriptFault) → before ≡ line ∷ rest → text ≡ content line → with_words script (words text) ≡ Err fault → after_lines n script before ≡ whole → whole ≡ Err (BadScript n fault)
+-- a line that is refused
+pub lines_refused : (r : Refusal) (n : ℕ) (draft : Draft) (script : Script) (before rest : List (List ℕ)) (line text : List ℕ) (whole : Result Script ScriptFault) → before ≡ line ∷ rest → text ≡ content line → Leaves {A = Unit {0}} draft (Err r) (with_words script (words text)) → after_lines n script before ≡ whole → Tells (Err (fault_at n r)) whole
 unfolding after_lines
-lines_bad n fault script before rest line text whole cut says is h = sym (rw (cut, ← says, is) at h)
+lines_refused Memory n draft script before rest line text whole cut says is h = tt
+lines_refused (Fault fault) n draft script before rest line text whole cut says is h = sym (rw (cut, ← says, is) at h)
+
+-- no bytes are left
+pub no_bytes : (bytes : List ℕ) (none : Bool) → none ≡ (length bytes == 0) → none ≡ true → length bytes ≡ 0
+no_bytes bytes none test h = grind (arith, nat_tests)
 
 no_lines : (bytes : List ℕ) → length bytes ≡ 0 → lines bytes ≡ []
 unfolding lines

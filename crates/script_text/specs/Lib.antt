@@ -7,3 +7,4 @@ pub mod Items
 pub mod Forms
 pub mod Scripts
 pub mod Drafts
+pub mod Faults

@@ -1,17 +1,17 @@
 // The script that the lines so far make.
-ghost use Rattle.std.specs.Prelude.{◌≡◌, ◌<◌, ◌≤◌, ◌^◌, length, nat_le, sum_by, Some, None, vec_len, if◌then◌else◌};
+ghost use Rattle.std.specs.Prelude.{◌≡◌, ◌<◌, ◌≤◌, ◌^◌, length, nat_le, sum_by, OnOk, Some, None, vec_len, if◌then◌else◌};
 ghost use Rattle.script_text.specs.Drafts.{Counts, HasRoom, Leaves, script_of};
 ghost use Rattle.script_text.specs.Items.{passage_turns, turns_of};
 ghost use Rattle.script_text.specs.Lines.{words};
 ghost use Rattle.script_text.specs.Reading.{Gives};
-ghost use Rattle.script_text.specs.Scripts.{command_bytes, empty_script, is_placed, limited, line_in, value_bytes, with_form, with_line, with_words};
+ghost use Rattle.script_text.specs.Scripts.{command_bytes, empty_script, is_placed, limited, line_in, value_bytes, with_command, with_form, with_line, with_words};
 
 use crate::fault::{LineFault, Refusal};
 use crate::forms::{self, Form, Line};
 use crate::lines::next_word;
 use crate::words::no_words;
 use command_set::{Bytes, Command, CommandList, Item, Passage, PassageList, SchemaList, Script, SessionList};
-use std::alloc::Global;
+use std::alloc::{AllocError, Global};
 use tuple_layout::Schema;
 
 const MOST_TABLES: usize = 16;
@@ -177,8 +177,7 @@ fn line(&self, alloc: Global, form: Form, text: &[u8]) -> Result<Line, Refusal>
         if self.commands == MOST_COMMANDS {
             return Err(Refusal::Fault(LineFault::TooMany));
         }
-        let last = self.sessions.len() - 1;
-        self.sessions[last].push(command)?;
+        push_last(&mut self.sessions, command)?;
         self.commands += 1;
         self.bytes += bytes;
         Ok(())
@@ -195,6 +194,15 @@ fn line(&self, alloc: Global, form: Form, text: &[u8]) -> Result<Line, Refusal>
         self.turns += turns;
         Ok(())
     }
+}
+
+// Adds a command to the last session.
+fn push_last(sessions: &mut Vec<CommandList>, command: Command) -> Result<(), AllocError>
+    requires { 0 < vec_len sessions.old }
+    ensures { OnOk result (sessions.new.items ≡ with_command command sessions.old.items) }
+{
+    let last = sessions.len() - 1;
+    sessions[last].push(command)
 }
 
 // How many bytes the values of a command have, if they are at most `most`.

@@ -1,5 +1,6 @@
 // Why bytes are no script.
 ghost use Rattle.std.specs.Prelude.{◌≡◌};
+ghost use Rattle.script_text.specs.Faults.{fault_at};
 ghost use Rattle.script_text.specs.declared.fault.Refusal.TheVariants.{Fault, Memory};
 ghost use Rattle.script_text.specs.declared.fault.ScriptFault.TheVariants as scripts;
 
@@ -61,6 +62,18 @@ pub enum Refusal {
     Fault(LineFault),
     // There is no memory.
     Memory,
+}
+
+impl Refusal {
+    // Why there is no script, where this is a line's refusal.
+    pub fn at_line(self, line: u32) -> ScriptFault
+        ensures { result ≡ fault_at line self }
+    {
+        match self {
+            Refusal::Fault(cause) => ScriptFault::BadScript { line, cause },
+            Refusal::Memory => ScriptFault::Memory,
+        }
+    }
 }
 
 impl From<LineFault> for Refusal {

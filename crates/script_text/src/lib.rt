@@ -1,7 +1,6 @@
 //! Scripts: from bytes to tables, the commands of sessions and a schedule, or the first bad line.
 #![tactic(auto)]
 
-ghost use Rattle.std.specs.Prelude.{◌≡◌};
 ghost use Rattle.script_text.specs.Scripts.{Tells, script_in};
 
 mod draft;
@@ -19,7 +18,6 @@ pub use command_set::Script;
 pub use fault::{LineFault, ScriptFault};
 
 use draft::Draft;
-use fault::Refusal;
 use lines::{content_of, cut_line};
 use std::alloc::Global;
 
@@ -36,8 +34,7 @@ pub fn parse_script(alloc: Global, bytes: &[u8]) -> Result<Script, ScriptFault>
         let (text, others) = cut_line(rest);
         match draft.add_words(alloc, content_of(text)) {
             Ok(()) => {}
-            Err(Refusal::Fault(cause)) => return Err(ScriptFault::BadScript { line, cause }),
-            Err(Refusal::Memory) => return Err(ScriptFault::Memory),
+            Err(refusal) => return Err(refusal.at_line(line)),
         }
         line = line.saturating_add(1);
         rest = others;

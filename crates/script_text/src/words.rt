@@ -71,7 +71,8 @@ pub fn table(schemas: &[Schema], word: &[u8]) -> Result<u16, LineFault>
 
 // How many columns a table has.
 pub fn columns(schemas: &[Schema], table: u16) -> usize
-    ensures { result ≡ columns_of schemas.now table }
+    ensures value { result ≡ columns_of schemas.now table }
+    ensures few { result ≤ 8 }
 {
     match schemas.get(usize::from(table.saturating_sub(1))) {
         Some(schema) => schema.storages().len(),

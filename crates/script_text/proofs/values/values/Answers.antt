@@ -12,4 +12,4 @@ pub words-preserved : goal.words-preserved
 words-preserved c = values_on c.words.row c.push.new.self (words c.words.rest.now) _ c.in-Some.word.now c.in_ok-found.found _ c.in-Some.ensures.found c.in_ok-found.ensures c.in_ok-push.ensures.ok c.words.invariant
 
 pub returns : goal.returns
-returns c = values_end c.words.row (words c.words.rest.now) _ ? c.words.invariant
+returns c = values_end c.words.row (words c.words.rest.now) _ c.in_default.ensures.found c.words.invariant

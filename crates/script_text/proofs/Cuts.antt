@@ -48,7 +48,7 @@ BeginsWith p [] = Unit {0}
 BeginsWith p (y ∷ ys) = p y ≡ true
 
 split_step : (p : ℕ → Bool) (b : Bool) (x : ℕ) (xs : List ℕ) (n : ℕ) → slice_split p xs ≡ take n xs ∷ pieces_behind p (drop n xs) →
-  cond b ([] ∷ slice_split p xs) (onto_first x (slice_split p xs)) ≡ take (cond (not b) (1 + n) 0) (x ∷ xs) ∷ pieces_behind p (drop (cond (not b) (1 + n) 0) (x ∷ xs))
+    cond b ([] ∷ slice_split p xs) (onto_first x (slice_split p xs)) ≡ take (cond (not b) (1 + n) 0) (x ∷ xs) ∷ pieces_behind p (drop (cond (not b) (1 + n) 0) (x ∷ xs))
 split_step p true x xs n h = refl
 split_step p false x xs n h =
     let e : 1 + n ≡ suc n = omega arith in

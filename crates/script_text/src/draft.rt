@@ -10,18 +10,25 @@ use crate::fault::{LineFault, Refusal};
 use crate::forms::{self, Form, Line};
 use crate::lines::next_word;
 use crate::words::no_words;
-use command_set::{Bytes, Command, CommandList, Item, Passage, PassageList, SchemaList, Script, SessionList};
+use command_set::{
+    Bytes, Command, CommandList, Item, Passage, PassageList, SchemaList, Script, SessionList,
+};
 use std::alloc::{AllocError, Global};
 use tuple_layout::Schema;
 
 const MOST_TABLES: usize = 16;
+
 const MOST_SESSIONS: usize = 64;
+
 const MOST_COMMANDS: usize = 10_000;
+
 const MOST_BYTES: usize = 67_108_864;
+
 const MOST_TURNS: u64 = 10_000_000;
 
 // The least value id, and the greatest.
 const LOW: u32 = 16_384;
+
 const HIGH: u32 = 4_294_967_295;
 
 // The parts of a script, and how many commands, bytes of values and turns are in them.
@@ -66,7 +73,7 @@ impl Draft {
 
     // Adds a line of these words, where there are words. After an error the draft is of no more use.
     #[tactic(auto, unfolding(crate::specs::Scripts::with_words))]
-pub fn add_words(&mut self, alloc: Global, text: &[u8]) -> Result<(), Refusal>
+    pub fn add_words(&mut self, alloc: Global, text: &[u8]) -> Result<(), Refusal>
         requires { Counts self.old }
         ensures { Leaves self.new result (with_words (script_of self.old) (words text.now)) }
     {
@@ -107,7 +114,7 @@ pub fn add_words(&mut self, alloc: Global, text: &[u8]) -> Result<(), Refusal>
 
     // What a line of this form says.
     #[tactic(auto, unfolding(crate::specs::Scripts::line_in))]
-fn line(&self, alloc: Global, form: Form, text: &[u8]) -> Result<Line, Refusal>
+    fn line(&self, alloc: Global, form: Form, text: &[u8]) -> Result<Line, Refusal>
         requires { Counts self.now }
         ensures { Gives result (line_in (script_of self.now) form (words text.now)) }
     {

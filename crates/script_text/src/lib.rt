@@ -15,9 +15,8 @@ mod values;
 mod words;
 
 pub use command_set::Script;
-pub use fault::{LineFault, ScriptFault};
-
 use draft::Draft;
+pub use fault::{LineFault, ScriptFault};
 use lines::{content_of, cut_line};
 use std::alloc::Global;
 

@@ -1,13 +1,11 @@
 -- What one more command does to a script's counts, and when a script is within its limits.
-use Rattle.std.proofs.Common.{◌≡◌, ◌≢◌, ◌<◌, ◌≤◌, ◌+◌, ◌-◌, ℕ, Bool, true, false, ◌&&◌, List, [], ◌∷◌, ◌++◌, Option, Some, None, Result, Ok, Err, length, get_or, set, refl, sym, ap, ◌∙◌, arith, cond, leb, sum_by, length-append, zero, suc}
+use Rattle.std.proofs.Common.{◌≡◌, ◌≢◌, ◌<◌, ◌≤◌, ◌+◌, ◌-◌, ℕ, Bool, true, false, ◌&&◌, List, [], ◌∷◌, ◌++◌, Some, None, Result, Ok, Err, length, get_or, set, refl, ap, arith, cond, leb, sum_by, length-append, zero, suc}
 use Rattle.std.specs.Prelude.{OnOk}
 use Rattle.std.proofs.lemmas.List.Sums.{sum_by-cons, sum_by_push}
 use Rattle.std.proofs.lemmas.Bool.Decides.{nat_tests}
 use Rattle.command_set.specs.declared.Command.{Command}
 use Rattle.command_set.specs.declared.Script.{Script}
-use Rattle.script_text.specs.Reading.{◌>>=◌}
 use Rattle.script_text.specs.Scripts.{with_command, with_line, is_within, limited, command_count, byte_count, turn_count, command_bytes}
-use Rattle.script_text.specs.declared.fault.LineFault.{LineFault}
 use Rattle.script_text.specs.declared.fault.LineFault.TheVariants.{TooMany}
 use Rattle.script_text.specs.declared.forms.Line.TheVariants as line
 

@@ -1,7 +1,6 @@
 -- A command that is read from a line in its place has a session.
-use Rattle.std.proofs.Common.{◌≡◌, ◌<◌, ◌&&◌, ℕ, Bool, true, false, not, List, [], ◌∷◌, length, Result, Ok, Err, refl, sym, subst, arith}
+use Rattle.std.proofs.Common.{◌≡◌, ◌<◌, ◌&&◌, ℕ, Bool, true, false, not, List, [], ◌∷◌, length, Result, Ok, Err, subst, arith}
 use Rattle.command_set.specs.declared.Script.{Script}
-use Rattle.command_set.specs.declared.Command.{Command}
 use Rattle.script_text.specs.Reading.{◌>>=◌}
 use Rattle.script_text.specs.Scripts.{is_placed, is_none_of, line_in}
 use Rattle.script_text.specs.Drafts.{HasRoom}

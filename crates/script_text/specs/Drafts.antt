@@ -1,5 +1,5 @@
 -- What stands in the parser's draft.
-use Rattle.std.specs.Prelude.{◌≡◌, ℕ, ◌<◌, true, List, length, Result, Ok, Err}
+use Rattle.std.specs.Prelude.{◌≡◌, ◌<◌, true, length, Result, Ok, Err}
 use Rattle.command_set.specs.declared.Script.{Script}
 use Rattle.script_text.specs.Scripts.{command_count, byte_count, turn_count, is_within}
 use Rattle.script_text.specs.declared.draft.Draft.{Draft}

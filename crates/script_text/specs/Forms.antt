@@ -8,18 +8,15 @@ use Rattle.command_set.specs.declared.Command.{Command}
 use Rattle.command_set.specs.declared.Command.TheVariants as commands
 use Rattle.command_set.specs.declared.Level.TheVariants.{Rc}
 use Rattle.command_set.specs.declared.Passage.{Passage}
-use Rattle.command_set.specs.declared.Script.{Script}
 use Rattle.script_text.specs.Numbers.{number_in, key_in}
 use Rattle.script_text.specs.Words.{none, one, two, first_of, first_of_all, table_in, columns_of}
 use Rattle.script_text.specs.Values.{values_in}
 use Rattle.script_text.specs.Items.{items_in}
 use Rattle.script_text.specs.Reading.{◌>>=◌}
 use Rattle.script_text.specs.declared.fault.LineFault.{LineFault}
-use Rattle.script_text.specs.declared.fault.LineFault.TheVariants.{WordCount, BadName, BadNumber}
+use Rattle.script_text.specs.declared.fault.LineFault.TheVariants.{BadName, BadNumber}
 use Rattle.script_text.specs.declared.forms.Form.{Form}
 use Rattle.script_text.specs.declared.forms.Form.TheVariants.{Table, Session, Begin, Commit, Rollback, Get, Insert, Go, Loop}
-use Rattle.script_text.specs.declared.forms.Line.{Line}
-use Rattle.script_text.specs.declared.forms.Line.TheVariants as lines
 
 -- the form that a first word begins
 unfoldable pub form_in : List ℕ → Option Form

@@ -1,5 +1,5 @@
 -- How the items of a schedule are spelled, and how many turns they are.
-use Rattle.std.specs.Prelude.{ℕ, ◌-◌, ◌*◌, ◌==◌, Bool, List, [], ◌∷◌, length, take, drop, codes, Result, Ok, Err, if◌then◌else◌}
+use Rattle.std.specs.Prelude.{ℕ, ◌-◌, ◌*◌, ◌==◌, Bool, List, [], ◌∷◌, length, take, drop, codes, Result, Ok, if◌then◌else◌}
 use Rattle.std.specs.List.{before_first, after_first, list_any, sum_by}
 use Rattle.std.specs.Option.{ok_or}
 use Rattle.std.specs.Str.{bytes_eq}

@@ -22,7 +22,7 @@ use std::alloc::Global;
 
 /// The script that the bytes spell.
 ///
-/// Where they spell none, the first bad line is named, and why it is bad. Want of memory may come at any line.
+/// Where they spell none, the fault names the first bad line, and why it is bad. Want of memory may come at any line.
 pub fn parse_script(alloc: Global, bytes: &[u8]) -> Result<Script, ScriptFault>
     ensures { Tells result (script_in bytes.now) }
 {

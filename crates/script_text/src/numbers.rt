@@ -39,8 +39,8 @@ fn value_up_to(digits: &[u8], high: u64) -> Option<u64>
     (number <= high).then_some(number)
 }
 
-#[tactic(auto, unfolding(crate::specs::Numbers::number_in))]
 // The number from `low` to `high` that a word spells.
+#[tactic(auto, unfolding(crate::specs::Numbers::number_in))]
 pub fn number(word: &[u8], low: u64, high: u64) -> Option<u64>
     requires { high ≤ 2 ^ 63 }
     ensures value { result ≡ number_in low high word.now }
@@ -62,8 +62,8 @@ fn negative(number: u64) -> i64
     -((number - 1) as i64) - 1
 }
 
-#[tactic(auto, unfolding(crate::specs::Numbers::key_in))]
 // The number with a sign that a word spells.
+#[tactic(auto, unfolding(crate::specs::Numbers::key_in))]
 pub fn key(word: &[u8]) -> Option<i64>
     ensures { result ≡ key_in word.now }
 {

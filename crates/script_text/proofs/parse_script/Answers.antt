@@ -1,4 +1,4 @@
-use Rattle.std.proofs.Common.{refl, arith}
+use Rattle.std.proofs.Common.{refl}
 use Rattle.script_text.specs.Lines.{lines}
 use Rattle.script_text.specs.Scripts.{script_in}
 use Rattle.script_text.specs.Drafts.{script_of}

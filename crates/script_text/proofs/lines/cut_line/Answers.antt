@@ -1,4 +1,3 @@
-use Rattle.std.proofs.Common.{◌≡◌, ap, sym, ◌∙◌}
 use Rattle.script_text.proofs.Cuts.{lines_cut}
 use Rattle.script_text.proofs.lines.cut_line.Goals as goal
 

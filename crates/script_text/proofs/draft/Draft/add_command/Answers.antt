@@ -1,4 +1,4 @@
-use Rattle.std.proofs.Common.{◌≡◌, ◌<◌, length, arith, sym, ap, ◌∙◌}
+use Rattle.std.proofs.Common.{◌≡◌, ◌<◌, length, arith}
 use Rattle.script_text.specs.Scripts.{with_command}
 use Rattle.script_text.specs.Drafts.{script_of}
 use Rattle.script_text.proofs.Counts.{command_heavy, command_many, command_fits, keeps}

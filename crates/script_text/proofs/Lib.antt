@@ -1,0 +1,5 @@
+pub mod Counts
+pub mod Cuts
+pub mod Digits
+pub mod Rooms
+pub mod Steps

@@ -1,0 +1,10 @@
+pub mod Lines
+pub mod Numbers
+pub mod Reading
+pub mod Words
+pub mod Values
+pub mod Items
+pub mod Forms
+pub mod Scripts
+pub mod Drafts
+pub mod Faults

@@ -1,0 +1,279 @@
+// The script that the lines so far make.
+ghost use Rattle.std.specs.Prelude.{◌≡◌, ◌<◌, ◌≤◌, ◌^◌, length, nat_le, sum_by, OnOk, Some, None, vec_len, if◌then◌else◌};
+ghost use Rattle.script_text.specs.Drafts.{Counts, HasRoom, Leaves, script_of};
+ghost use Rattle.script_text.specs.Items.{passage_turns, turns_of};
+ghost use Rattle.script_text.specs.Lines.{words};
+ghost use Rattle.script_text.specs.Reading.{Gives};
+ghost use Rattle.script_text.specs.Scripts.{command_bytes, empty_script, is_placed, limited, line_in, value_bytes, with_command, with_form, with_line, with_words};
+
+use crate::fault::{LineFault, Refusal};
+use crate::forms::{self, Form, Line};
+use crate::lines::next_word;
+use crate::words::no_words;
+use command_set::{
+    Bytes, Command, CommandList, Item, Passage, PassageList, SchemaList, Script, SessionList,
+};
+use std::alloc::{AllocError, Global};
+use tuple_layout::Schema;
+
+const MOST_TABLES: usize = 16;
+
+const MOST_SESSIONS: usize = 64;
+
+const MOST_COMMANDS: usize = 10_000;
+
+const MOST_BYTES: usize = 67_108_864;
+
+const MOST_TURNS: u64 = 10_000_000;
+
+// The least value id, and the greatest.
+const LOW: u32 = 16_384;
+
+const HIGH: u32 = 4_294_967_295;
+
+// The parts of a script, and how many commands, bytes of values and turns are in them.
+#[derive(Debug, Drop)]
+pub struct Draft {
+    pub schemas: SchemaList,
+    pub sessions: Vec<CommandList>,
+    pub schedule: PassageList,
+    pub commands: usize,
+    pub bytes: usize,
+    pub turns: u64,
+}
+
+impl Draft {
+    // The script of no lines. It takes no memory.
+    pub fn new(alloc: Global) -> Draft
+        ensures script { script_of result ≡ empty_script }
+        ensures counts { Counts result }
+    {
+        Draft {
+            schemas: SchemaList::new(alloc),
+            sessions: Vec::new(alloc),
+            schedule: PassageList::new(alloc),
+            commands: 0,
+            bytes: 0,
+            turns: 0,
+        }
+    }
+
+    // The script.
+    pub fn into_script(self) -> Script
+        ensures { result ≡ script_of self }
+    {
+        Script {
+            low: LOW,
+            high: HIGH,
+            schemas: self.schemas,
+            sessions: SessionList::from_vec(self.sessions),
+            schedule: self.schedule,
+        }
+    }
+
+    // Adds a line of these words, where there are words. After an error the draft is of no more use.
+    #[tactic(auto, unfolding(crate::specs::Scripts::with_words))]
+    pub fn add_words(&mut self, alloc: Global, text: &[u8]) -> Result<(), Refusal>
+        requires { Counts self.old }
+        ensures { Leaves self.new result (with_words (script_of self.old) (words text.now)) }
+    {
+        let Some((word, rest)) = next_word(text) else {
+            return Ok(());
+        };
+        match forms::form_of(word) {
+            Some(form) => self.add_form(alloc, form, rest),
+            None => Err(Refusal::Fault(LineFault::UnknownWord)),
+        }
+    }
+
+    // Adds a line of this form, which says these words.
+    fn add_form(&mut self, alloc: Global, form: Form, text: &[u8]) -> Result<(), Refusal>
+        requires { Counts self.old }
+        ensures { Leaves self.new result (with_form (script_of self.old) form (words text.now)) }
+    {
+        if !self.may_stand(form) {
+            return Err(Refusal::Fault(LineFault::OutOfPlace));
+        }
+        let line = self.line(alloc, form, text)?;
+        self.add(line)
+    }
+
+    // Whether a line of this form may stand next.
+    fn may_stand(&self, form: Form) -> bool
+        ensures { result ≡ is_placed (script_of self.now) form }
+    {
+        match form {
+            Form::Table => self.sessions.is_empty() && self.schedule.is_empty(),
+            Form::Session => self.schedule.is_empty(),
+            Form::Go | Form::Loop => true,
+            Form::Begin | Form::Commit | Form::Rollback | Form::Get | Form::Insert => {
+                self.schedule.is_empty() && !self.sessions.is_empty()
+            }
+        }
+    }
+
+    // What a line of this form says.
+    #[tactic(auto, unfolding(crate::specs::Scripts::line_in))]
+    fn line(&self, alloc: Global, form: Form, text: &[u8]) -> Result<Line, Refusal>
+        requires { Counts self.now }
+        ensures { Gives result (line_in (script_of self.now) form (words text.now)) }
+    {
+        let schemas = self.schemas.as_slice();
+        let sessions = self.sessions.len();
+        match form {
+            Form::Table => Ok(Line::Table(forms::table_of(alloc, text)?)),
+            Form::Session => {
+                no_words(text)?;
+                Ok(Line::Session)
+            }
+            Form::Begin => Ok(Line::Command(forms::begin(text)?)),
+            Form::Commit => Ok(Line::Command(forms::commit(text)?)),
+            Form::Rollback => Ok(Line::Command(forms::rollback(text)?)),
+            Form::Get => Ok(Line::Command(forms::get(schemas, text)?)),
+            Form::Insert => Ok(Line::Command(forms::insert(alloc, schemas, text)?)),
+            Form::Go => Ok(Line::Passage(forms::go(alloc, sessions, text)?)),
+            Form::Loop => Ok(Line::Passage(forms::repeat(alloc, sessions, text)?)),
+        }
+    }
+
+    // Adds what a line says.
+    fn add(&mut self, line: Line) -> Result<(), Refusal>
+        requires counts { Counts self.old }
+        requires placed { HasRoom (script_of self.old) line }
+        ensures { Leaves self.new result (limited (with_line (script_of self.old) line)) }
+    {
+        match line {
+            Line::Table(schema) => self.add_table(schema),
+            Line::Session => self.add_session(),
+            Line::Command(command) => self.add_command(command),
+            Line::Passage(passage) => self.add_passage(passage),
+        }
+    }
+
+    fn add_table(&mut self, schema: Schema) -> Result<(), Refusal>
+        requires { Counts self.old }
+        ensures { Leaves self.new result (limited (with_line (script_of self.old) (Line.Table schema))) }
+    {
+        if self.schemas.len() == MOST_TABLES {
+            return Err(Refusal::Fault(LineFault::TooMany));
+        }
+        self.schemas.push(schema)?;
+        Ok(())
+    }
+
+    fn add_session(&mut self) -> Result<(), Refusal>
+        requires { Counts self.old }
+        ensures { Leaves self.new result (limited (with_line (script_of self.old) Line.Session)) }
+    {
+        if self.sessions.len() == MOST_SESSIONS {
+            return Err(Refusal::Fault(LineFault::TooMany));
+        }
+        let commands = CommandList::new(*self.sessions.allocator());
+        self.sessions.push(commands)?;
+        Ok(())
+    }
+
+    fn add_command(&mut self, command: Command) -> Result<(), Refusal>
+        requires counts { Counts self.old }
+        requires session { 0 < vec_len self.old.sessions }
+        ensures { Leaves self.new result (limited (with_line (script_of self.old) (Line.Command command))) }
+    {
+        let Some(bytes) = bytes_of(&command, MOST_BYTES - self.bytes) else {
+            return Err(Refusal::Fault(LineFault::TooMany));
+        };
+        if self.commands == MOST_COMMANDS {
+            return Err(Refusal::Fault(LineFault::TooMany));
+        }
+        push_last(&mut self.sessions, command)?;
+        self.commands += 1;
+        self.bytes += bytes;
+        Ok(())
+    }
+
+    fn add_passage(&mut self, passage: Passage) -> Result<(), Refusal>
+        requires { Counts self.old }
+        ensures { Leaves self.new result (limited (with_line (script_of self.old) (Line.Passage passage))) }
+    {
+        let Some(turns) = turns_in(&passage, MOST_TURNS - self.turns) else {
+            return Err(Refusal::Fault(LineFault::TooMany));
+        };
+        self.schedule.push(passage)?;
+        self.turns += turns;
+        Ok(())
+    }
+}
+
+// Adds a command to the last session.
+fn push_last(sessions: &mut Vec<CommandList>, command: Command) -> Result<(), AllocError>
+    requires { 0 < vec_len sessions.old }
+    ensures { OnOk result (sessions.new.items ≡ with_command command sessions.old.items) }
+{
+    let last = sessions.len() - 1;
+    sessions[last].push(command)
+}
+
+// How many bytes the values of a command have, if they are at most `most`.
+fn bytes_of(command: &Command, most: usize) -> Option<usize>
+    requires { most ≤ 67108864 }
+    ensures { result ≡ (if nat_le (command_bytes command.now) most then Some (command_bytes command.now) else None) }
+{
+    match command {
+        Command::Insert { row, .. } => row_bytes(row.as_slice(), most),
+        _ => Some(0),
+    }
+}
+
+// How many bytes the values of a row have, if they are at most `most`.
+fn row_bytes(row: &[Option<Bytes>], most: usize) -> Option<usize>
+    requires { most ≤ 67108864 }
+    ensures { result ≡ (if nat_le (sum_by value_bytes row.now) most then Some (sum_by value_bytes row.now) else None) }
+{
+    let mut room = most;
+    for value in row {
+        room = room.checked_sub(value_len(value))?;
+    }
+    Some(most - room)
+}
+
+fn value_len(value: &Option<Bytes>) -> usize
+    ensures { result ≡ value_bytes value.now }
+{
+    match value {
+        Some(bytes) => bytes.len(),
+        None => 0,
+    }
+}
+
+// How many turns a passage counts as, if they are at most `most`.
+fn turns_in(passage: &Passage, most: u64) -> Option<u64>
+    requires { most ≤ 10000000 }
+    ensures { result ≡ (if nat_le (passage_turns passage.now) most then Some (passage_turns passage.now) else None) }
+{
+    if passage.count == 0 {
+        return Some(0);
+    }
+    let once = once_through(passage.items.as_slice(), most)?;
+    let turns = u64::from(passage.count) * once;
+    (turns <= most).then_some(turns)
+}
+
+// How many turns items count as, if they are at most `most`.
+fn once_through(items: &[Item], most: u64) -> Option<u64>
+    requires { most ≤ 10000000 }
+    ensures { result ≡ (if nat_le (sum_by turns_of items.now) most then Some (sum_by turns_of items.now) else None) }
+{
+    let mut room = most;
+    for item in items {
+        room = room.checked_sub(item_turns(*item))?;
+    }
+    Some(most - room)
+}
+
+fn item_turns(item: Item) -> u64
+    ensures { result ≡ turns_of item }
+{
+    match item {
+        Item::Once { .. } | Item::Whole { .. } => 1,
+        Item::Times { count, .. } => u64::from(count),
+    }
+}

@@ -1,0 +1,42 @@
+//! Scripts: from bytes to tables, the commands of sessions and a schedule, or the first bad line.
+#![tactic(auto)]
+
+ghost use Rattle.script_text.specs.Scripts.{Tells, script_in};
+
+mod draft;
+mod fault;
+mod forms;
+mod items;
+mod lines;
+mod numbers;
+#[cfg(test)]
+mod tests;
+mod values;
+mod words;
+
+pub use command_set::Script;
+use draft::Draft;
+pub use fault::{LineFault, ScriptFault};
+use lines::{content_of, cut_line};
+use std::alloc::Global;
+
+/// The script that the bytes spell.
+///
+/// Where they spell none, the fault names the first bad line, and why it is bad. Want of memory may come at any line.
+pub fn parse_script(alloc: Global, bytes: &[u8]) -> Result<Script, ScriptFault>
+    ensures { Tells result (script_in bytes.now) }
+{
+    let mut draft = Draft::new(alloc);
+    let mut line = 1u32;
+    let mut rest = bytes;
+    'lines: while !rest.is_empty() {
+        let (text, others) = cut_line(rest);
+        match draft.add_words(alloc, content_of(text)) {
+            Ok(()) => {}
+            Err(refusal) => return Err(refusal.at_line(line)),
+        }
+        line = line.saturating_add(1);
+        rest = others;
+    }
+    Ok(draft.into_script())
+}

@@ -1,0 +1,3 @@
+mod Rooms
+pub mod Tids
+pub mod Pages

@@ -36,14 +36,14 @@ impl<T> LinePointer<T> {
     ghost use Rattle.slot_page.specs.Lends.{lends_item};
 
     /// Whether another item may take the slot.
-    pub fn is_unused(&self) -> bool
+    pub(crate) fn is_unused(&self) -> bool
         ensures { result ≡ is_unused self.now }
     {
         matches!(self, LinePointer::Unused)
     }
 
     /// The slot's state.
-    pub fn state(&self) -> Slot
+    pub(crate) fn state(&self) -> Slot
         ensures { result ≡ state_of self.now }
     {
         match self {
@@ -54,7 +54,7 @@ impl<T> LinePointer<T> {
     }
 
     /// The item, if there is one.
-    pub fn item(&self) -> Option<&T>
+    pub(crate) fn item(&self) -> Option<&T>
         ensures { option_copied result ≡ item_of self.now }
     {
         match self {
@@ -64,7 +64,7 @@ impl<T> LinePointer<T> {
     }
 
     /// The item for writing, if there is one; its size stays.
-    pub fn item_mut(&mut self) -> Option<&mut T>
+    pub(crate) fn item_mut(&mut self) -> Option<&mut T>
         ensures* writes_back { sem 𝓛 (lends_item T.row self.entry result) }
         ensures item { option_map (λ item. item.now) result ≡ item_of self.old }
     {

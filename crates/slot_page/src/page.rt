@@ -1,7 +1,7 @@
 ghost use Rattle.std.specs.Prelude.{◌≡◌, ℕ, ◌≤◌, ◌<◌, [], length, slice_set, Some, IfOk, IfErr, OnOk, OnErr, is_ok, position, option_copied};
 ghost use Rattle.std.specs.Option.{option_map};
 ghost use Rattle.std.specs.Borrow.{sem};
-ghost use Rattle.slot_page.specs.Slots.{is_unused, IsNormal, IsDead, item_of, state_of, slot_at, first_unused, fits, with_put, most_slots};
+ghost use Rattle.slot_page.specs.Slots.{is_unused, rounded, IsNormal, IsDead, item_of, state_of, slot_at, first_unused, fits, with_put, most_slots};
 
 use crate::line::{LinePointer, Slot};
 use std::alloc::{AllocError, Global};
@@ -45,6 +45,14 @@ impl<T> Model for Page<T> {
     ghost invariant = { λ page. IsPage page.slots.items page.room × (most_slots ≤ vec_capacity page.slots) };
 }
 
+/// The bytes that an item of this size takes.
+fn rounded(size: u16) -> u16
+    requires { size ≤ 65528 }
+    ensures { result ≡ rounded size }
+{
+    (size + 7) / 8 * 8
+}
+
 /// The lowest unused slot, if there is one.
 fn unused_slot<T>(slots: &[LinePointer<T>]) -> Option<usize>
     ensures { result ≡ position is_unused slots.now }
@@ -78,25 +86,25 @@ impl<T: Drop> Page<T> {
         ensures handed_back { IfErr result (λ none. none.item ≡ item) }
         ensures unchanged { OnErr result (self.new ≡ self.old) }
     {
-        let rounded = (size + 7) / 8 * 8;
-        if self.room < rounded {
+        let taken = rounded(size);
+        if self.room < taken {
             return Err(NoRoom { item });
         }
         match unused_slot(&self.slots) {
             Some(slot) => {
                 self.slots[slot] = LinePointer::Normal { size, item };
-                self.room -= rounded;
+                self.room -= taken;
                 Ok(slot as u16)
             }
             None => {
                 let slot = self.slots.len();
-                if slot >= MOST_SLOTS || self.room < rounded + POINTER_SIZE {
+                if slot >= MOST_SLOTS || self.room < taken + POINTER_SIZE {
                     return Err(NoRoom { item });
                 }
                 if self.slots.push(LinePointer::Normal { size, item }).is_err() {
                     unreachable!();
                 }
-                self.room -= rounded + POINTER_SIZE;
+                self.room -= taken + POINTER_SIZE;
                 Ok(slot as u16)
             }
         }
@@ -144,7 +152,7 @@ impl<T: Drop> Page<T> {
         let line = &mut self.slots[slot as usize];
         match mem::replace(line, LinePointer::Dead) {
             LinePointer::Normal { size, item } => {
-                self.room += (size + 7) / 8 * 8;
+                self.room += rounded(size);
                 item
             }
             LinePointer::Dead | LinePointer::Unused => unreachable!(),

@@ -1,8 +1,6 @@
 -- Pieces of a value joined and cut, and the spans of slices.
-use Rattle.std.proofs.Common.{ℕ, ◌≡◌, ◌+◌, ◌-◌, ◌*◌, ◌/◌, ◌<◌, ◌≤◌, List, [], ◌∷◌, ◌++◌, length, take, drop, min, refl, sym, ◌∙◌, ap, arith, zero, suc}
-use Rattle.std.proofs.lemmas.List.{drop-take, take-take, drop-drop, take_all, drop_all}
-use Rattle.std.proofs.lemmas.List.Concat.{flat_map-cons}
-use Rattle.std.proofs.lemmas.Grind.{common_steps}
+use Rattle.std.proofs.Common.{ℕ, ◌≡◌, ◌+◌, ◌-◌, ◌*◌, ◌/◌, ◌<◌, ◌≤◌, List, ◌++◌, take, drop, refl, sym, ◌∙◌, ap, arith, zero, suc}
+use Rattle.std.proofs.lemmas.List.{drop-take, take-take, drop-drop}
 use Rattle.std.proofs.Math.Seq.{take-add}
 use Rattle.std.specs.List.{slice_range, flat_map, range_with_len}
 use Rattle.slice_fetch.specs.declared.Span.{Span}

@@ -1,5 +1,5 @@
 -- What stands at each place of a list of pages after a change of one place or after an item is put: for every relation, whatever its items.
-use Rattle.std.proofs.Common.{ℕ, ◌≡◌, ◌≢◌, ◌+◌, ◌<◌, ◌≤◌, ◌⊎◌, inl, inr, Bool, true, false, not, List, [], ◌∷◌, ◌++◌, Option, Some, None, length, slice_set, slice_index_or, nat_lt, if◌then◌else◌, map, refl, sym, ◌∙◌, ap, arith, zero, suc}
+use Rattle.std.proofs.Common.{ℕ, ◌≡◌, ◌≢◌, ◌<◌, ◌≤◌, ◌⊎◌, inl, inr, true, false, not, List, [], ◌∷◌, Some, None, length, slice_set, slice_index_or, map, refl, sym, ◌∙◌, ap, arith, zero, suc}
 use Rattle.std.proofs.lemmas.Grind.{common_steps, get_or-set_at}
 use Rattle.std.proofs.lemmas.Bool.{cases_lt}
 use Rattle.std.proofs.lemmas.Bool.Decides.{nat_tests}
@@ -10,9 +10,9 @@ use Rattle.list_facts.proofs.Lookups.{get_or-set, get_or-push, changed_or_added,
 use Rattle.slot_page.specs.declared.line.Tid.{Tid}
 use Rattle.slot_page.specs.declared.line.LinePointer.{LinePointer}
 use Rattle.slot_page.specs.declared.line.LinePointer.TheVariants.{Normal, Dead, Unused}
-use Rattle.slot_page.specs.Slots.{is_unused, IsNormal, IsDead, item_of, with_item, slot_at, rounded, first_unused, has_unused, fits, with_put}
+use Rattle.slot_page.specs.Slots.{is_unused, IsNormal, IsDead, item_of, with_item, slot_at, first_unused, fits, with_put}
 use Rattle.slot_page.specs.Pages.{page_at, slot_of, item_in, written, fit_page, put_tid, with_put_on}
-use Rattle.slot_page.proofs.Tids.{tid_same, cases_tid}
+use Rattle.slot_page.proofs.Tids.{tid_same}
 
 -- a slot after a change of one place is as before, or it is that place with what was written
 pub slot_of-written : {T : Type 0} (pages : List (List (LinePointer T))) (t u : Tid) (line : LinePointer T) → (slot_of (written pages t line) u ≡ slot_of pages u) ⊎ ((u ≡ t) × (slot_of (written pages t line) u ≡ line))

@@ -1,11 +1,11 @@
 -- What is kept of a page as its slots change.
-use Rattle.std.proofs.Common.{ℕ, ◌≡◌, ◌+◌, ◌-◌, ◌<◌, ◌≤◌, ◌⊎◌, inl, inr, Bool, true, false, not, Option, Some, None, List, [], ◌∷◌, ◌++◌, length, slice_set, slice_index_or, refl, sym, ◌∙◌, ap, arith, zero, suc, length-set, length-append}
+use Rattle.std.proofs.Common.{ℕ, ◌≡◌, ◌+◌, ◌-◌, ◌<◌, ◌≤◌, ◌⊎◌, inl, inr, true, false, not, Some, None, List, [], ◌∷◌, ◌++◌, length, slice_set, slice_index_or, refl, sym, ap, arith, zero, suc, length-set, length-append}
 use Rattle.std.proofs.lemmas.Grind.{common_steps}
 use Rattle.std.proofs.lemmas.List.Sums.{prefix_len-le-length, sum_by-set, sum_by_push, passes_at_first}
-use Rattle.std.specs.List.{sum_by, position, position_or_len}
+use Rattle.std.specs.List.{position}
 use Rattle.slot_page.specs.declared.line.LinePointer.{LinePointer}
 use Rattle.slot_page.specs.declared.line.LinePointer.TheVariants.{Normal, Dead, Unused}
-use Rattle.slot_page.specs.Slots.{is_unused, slot_at, rounded, taken, room, first_unused, has_unused, need, fits, IsPage, most_slots}
+use Rattle.slot_page.specs.Slots.{is_unused, slot_at, rounded, taken, room, first_unused, fits, IsPage, most_slots}
 
 -- the room kept is the room by definition
 pub room_is : {T : Type 0} (slots : List (LinePointer T)) (kept : ℕ) → IsPage slots kept → room slots ≡ kept

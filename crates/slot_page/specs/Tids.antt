@@ -1,5 +1,4 @@
 -- The order of tids: by page, then by slot (PostgreSQL's tuple identifiers).
-use Rattle.std.specs.Prelude.{ℕ}
 use Rattle.std.specs.declared.cmp.Ordering.{Ordering}
 use Rattle.std.specs.Ordering.{nat_cmp, ordering_then}
 use Rattle.slot_page.specs.declared.line.Tid.{Tid}

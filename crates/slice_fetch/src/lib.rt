@@ -58,8 +58,7 @@ pub fn chunk_range(span: Span) -> Option<(u32, u32)>
     requires { span.start ≤ span.end }
     ensures empty { IsNone result ↔ (span.start ≡ span.end) }
     ensures range { IfSome result (λ range. (range.0 ≡ span.start / chunk_size) × (range.1 ≡ (span.end - 1) / chunk_size)) }
-    ensures pieces { IfSome result (λ range. (bytes : List ℕ) → span.end ≤ length bytes
-        → bytes_in (seen_from range.0 span) (pieces_joined bytes range.0 range.1) ≡ bytes_in span bytes) }
+    ensures pieces { IfSome result (λ range. (bytes : List ℕ) → bytes_in (seen_from range.0 span) (pieces_joined bytes range.0 range.1) ≡ bytes_in span bytes) }
 {
     if span.start == span.end {
         return None;

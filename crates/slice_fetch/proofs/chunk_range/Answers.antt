@@ -3,4 +3,4 @@ use Rattle.slice_fetch.proofs.Cuts.{pieces_cut}
 use Rattle.slice_fetch.proofs.chunk_range.Goals as goal
 
 pub returns-clause-pieces : goal.returns-clause-pieces
-returns-clause-pieces c = λ bytes within. pieces_cut bytes c.args.span (omega arith)
+returns-clause-pieces c = λ bytes. pieces_cut bytes c.args.span (omega arith)

@@ -1,0 +1,4 @@
+mod Lookups
+mod Rooms
+pub mod Tids
+pub mod Pages

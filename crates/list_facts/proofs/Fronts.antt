@@ -1,5 +1,5 @@
 -- Fronts of lists that grow.
-use Rattle.std.proofs.Common.{◌≡◌, ℕ, zero, suc, ◌+◌, ◌≤◌, List, [], ◌∷◌, ◌++◌, length, take, refl, sym, ap, ◌∙◌, arith}
+use Rattle.std.proofs.Common.{◌≡◌, List, [], ◌∷◌, ◌++◌, length, take, refl, ap, ◌∙◌}
 
 -- a list that begins with a longer front begins with a shorter one
 pub shorter_front : {T : Type 0} (old more new : List T) → take (length (old ++ more)) new ≡ old ++ more → take (length old) new ≡ old

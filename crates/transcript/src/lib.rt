@@ -11,6 +11,5 @@ pub use command_set::{Bytes, Reply, Row};
 pub use print::{print_message, print_reply, print_row};
 pub use stream_wire::Message;
 
-
 #[cfg(test)]
 mod tests;

@@ -86,7 +86,12 @@ fn put_spaced(value: &Option<Bytes>, out: &mut Bytes) -> Result<(), AllocError>
     put_value(value, out)
 }
 
-fn put_row(alloc: Global, key: &i64, values: &[Option<Bytes>], out: &mut Bytes) -> Result<(), AllocError>
+fn put_row(
+    alloc: Global,
+    key: &i64,
+    values: &[Option<Bytes>],
+    out: &mut Bytes,
+) -> Result<(), AllocError>
     ensures ok { OnOk result (out.new ≡ out.old ++ (codes "row " ++ signed_decimal key.now ++ values_text values.now)) }
     ensures kept { OnErr result (take (length out.old) out.new ≡ out.old) }
 {

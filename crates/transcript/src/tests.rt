@@ -18,7 +18,10 @@ fn each_reply_has_its_line(rt: HostRuntime) -> Result<(), AllocError> {
     let rows = [
         (Reply::Okay, "s64.10000 ok\n"),
         (Reply::RolledBack, "s64.10000 rolled back\n"),
-        (Reply::Row { key: -7, row }, "s64.10000 row -7 x0102ab null\n"),
+        (
+            Reply::Row { key: -7, row },
+            "s64.10000 row -7 x0102ab null\n",
+        ),
         (Reply::Bytes(bytes), "s64.10000 bytes xf00f\n"),
         (Reply::Bytes(ListOf::new(alloc)), "s64.10000 bytes x\n"),
         (Reply::Null, "s64.10000 null\n"),

@@ -11,4 +11,4 @@ returns-in_err-put_part-clause-kept c =
 pub loop-rest-preserved : goal.loop-rest-preserved
 loop-rest-preserved c =
     one_more c.args.bytes.now c.loop-rest.rest.now c.args.out.now c.loop-rest.out c.split_at.result.0.now c.split_at.result.1.now c.put_part.new.out
-      c.loop-rest.invariant (both_parts _ _ _ _ c.split_at.ensures.front c.split_at.ensures.back) c.in_ok-put_part.ensures.ok
+    c.loop-rest.invariant (both_parts _ _ _ _ c.split_at.ensures.front c.split_at.ensures.back) c.in_ok-put_part.ensures.ok

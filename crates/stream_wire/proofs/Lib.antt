@@ -1,0 +1,6 @@
+pub mod Fields
+pub mod Columns
+pub mod Loop
+pub mod Messages
+pub mod Only
+pub mod Parts

@@ -2,7 +2,7 @@
 //! and facts about lists that std lacks.
 #![tactic(auto)]
 
-ghost use Rattle.std.specs.Prelude.{◌≡◌, ◌<◌, ◌↔◌, ◌++◌, ◌∷◌, [], length, IfOk, IsTrue, OnErr, OnOk, slice_get, slice_set, take};
+ghost use Rattle.std.specs.Prelude.{◌≡◌, ◌<◌, ◌↔◌, ◌++◌, ◌∷◌, [], length, IfOk, IsTrue, OnErr, OnOk, slice_get, slice_set};
 ghost use Rattle.std.specs.Option.{option_copied};
 
 use std::alloc::{AllocError, Global};
@@ -93,13 +93,6 @@ impl<T: Drop> ListOf<T> {
         self.items[at] = item;
     }
 
-    /// Drops the items from this place on. A list that is no longer stays.
-    pub fn truncate(&mut self, len: usize)
-        ensures { self.new ≡ take len self.old }
-    {
-        self.items.truncate(len);
-    }
-
     /// Keeps room for this many items more. The items stay.
     pub fn reserve(&mut self, more: usize) -> Result<(), AllocError>
         ensures { self.new ≡ self.old }
@@ -177,7 +170,6 @@ mod tests {
                 .is_some_and(|list| list.as_slice() == &[1u8, 2, 3][..])
         );
         assert!(rt; lists.get(2).is_none());
-        lists.truncate(3);
         assert!(rt; lists.into_vec().len() == 2);
         Ok(())
     }

@@ -12,7 +12,7 @@ fn reads_back(rt: &impl Abort, alloc: Global, bytes: &[u8]) -> Result<Message, A
     let (message, taken) = found.expect(rt, "the bytes are a message");
     assert_eq!(rt; taken, bytes.len());
     let mut out = ListOf::from_slice(alloc, &[7u8])?;
-    write_message(&message, &mut out)?;
+    write_message(alloc, &message, &mut out)?;
     assert!(rt; out.len() == bytes.len() + 1);
     assert!(rt; &out.as_slice()[1..] == bytes);
     out.push(0x42)?;

@@ -6,7 +6,7 @@ ghost use Rattle.std.specs.List.{flat_map, All};
 ghost use Rattle.stream_wire.specs.Spelling.{AreColumns, IsInRange, IsShort, column_bytes, columns_bytes, key_bytes, spelling};
 
 use crate::message::{Message, Sent, SentList};
-use std::alloc::AllocError;
+use std::alloc::{AllocError, Global};
 use toast_io::Bytes;
 
 // Each function that adds to `out` keeps what was there; at an error it may have added some bytes.
@@ -34,7 +34,7 @@ fn put_column(column: &Sent, out: &mut Bytes) -> Result<(), AllocError>
     }
 }
 
-#[tactic(auto, using(list_facts::proofs::Fronts::shorter_front))]
+#[tactic(auto, using(crate::proofs::Fronts::shorter_front))]
 fn put_columns(columns: &SentList, out: &mut Bytes) -> Result<(), AllocError>
     requires { AreColumns columns.now }
     ensures ok { OnOk result (out.new ≡ out.old ++ columns_bytes columns.now) }
@@ -136,15 +136,13 @@ fn put_message(m: &Message, out: &mut Bytes) -> Result<(), AllocError>
 /// Appends the one spelling of a message, which is within its ranges.
 ///
 /// Where memory is missing `out` stays as it was.
-pub fn write_message(m: &Message, out: &mut Bytes) -> Result<(), AllocError>
+pub fn write_message(alloc: Global, m: &Message, out: &mut Bytes) -> Result<(), AllocError>
     requires { IsInRange m.now }
     ensures ok { OnOk result (out.new ≡ out.old ++ spelling m.now) }
     ensures err { OnErr result (out.new ≡ out.old) }
 {
-    let start = out.len();
-    let written = put_message(m, out);
-    if written.is_err() {
-        out.truncate(start);
-    }
-    written
+    let mut bytes = Bytes::new(alloc);
+    put_message(m, &mut bytes)?;
+    out.extend_from_slice(bytes.as_slice())?;
+    Ok(())
 }

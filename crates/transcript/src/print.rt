@@ -40,12 +40,10 @@ pub fn print_reply(
     ensures ok { OnOk result (out.new ≡ out.old ++ reply_line session number reply.now) }
     ensures err { OnErr result (out.new ≡ out.old) }
 {
-    let start = out.len();
-    let printed = put_reply_line(alloc, session, number, reply, out);
-    if printed.is_err() {
-        out.truncate(start);
-    }
-    printed
+    let mut line = ListOf::new(alloc);
+    put_reply_line(alloc, session, number, reply, &mut line)?;
+    out.extend_from_slice(line.as_slice())?;
+    Ok(())
 }
 
 fn put_message_line(alloc: Global, m: &Message, out: &mut Bytes) -> Result<(), AllocError>
@@ -54,7 +52,7 @@ fn put_message_line(alloc: Global, m: &Message, out: &mut Bytes) -> Result<(), A
     ensures kept { OnErr result (take (length out.old) out.new ≡ out.old) }
 {
     let mut bytes = ListOf::new(alloc);
-    write_message(m, &mut bytes)?;
+    write_message(alloc, m, &mut bytes)?;
     put_text("msg ", out)?;
     put_digits(bytes.as_slice(), out)?;
     put_text("\n", out)
@@ -68,12 +66,10 @@ pub fn print_message(alloc: Global, m: &Message, out: &mut Bytes) -> Result<(), 
     ensures ok { OnOk result (out.new ≡ out.old ++ message_line m.now) }
     ensures err { OnErr result (out.new ≡ out.old) }
 {
-    let start = out.len();
-    let printed = put_message_line(alloc, m, out);
-    if printed.is_err() {
-        out.truncate(start);
-    }
-    printed
+    let mut line = ListOf::new(alloc);
+    put_message_line(alloc, m, &mut line)?;
+    out.extend_from_slice(line.as_slice())?;
+    Ok(())
 }
 
 fn put_row_line(
@@ -105,10 +101,8 @@ pub fn print_row(
     ensures ok { OnOk result (out.new ≡ out.old ++ row_line table key row.now) }
     ensures err { OnErr result (out.new ≡ out.old) }
 {
-    let start = out.len();
-    let printed = put_row_line(alloc, table, &key, row, out);
-    if printed.is_err() {
-        out.truncate(start);
-    }
-    printed
+    let mut line = ListOf::new(alloc);
+    put_row_line(alloc, table, &key, row, &mut line)?;
+    out.extend_from_slice(line.as_slice())?;
+    Ok(())
 }

@@ -67,7 +67,7 @@ fn put_bytes(bytes: &Bytes, out: &mut Bytes) -> Result<(), AllocError>
 }
 
 /// Adds a row's values, each behind a space.
-#[tactic(auto, using(list_facts::proofs::Fronts::shorter_front))]
+#[tactic(auto, using(stream_wire::proofs::Fronts::shorter_front))]
 pub(crate) fn put_values(values: &[Option<Bytes>], out: &mut Bytes) -> Result<(), AllocError>
     ensures ok { OnOk result (out.new ≡ out.old ++ values_text values.now) }
     ensures kept { OnErr result (take (length out.old) out.new ≡ out.old) }

@@ -2,7 +2,7 @@
 //! and facts about lists that std lacks.
 #![tactic(auto)]
 
-ghost use Rattle.std.specs.Prelude.{◌≡◌, ◌<◌, ◌↔◌, ◌++◌, ◌∷◌, [], length, IfOk, IsTrue, OnErr, OnOk, slice_get, slice_set};
+ghost use Rattle.std.specs.Prelude.{◌≡◌, ◌<◌, ◌↔◌, ◌++◌, ◌∷◌, [], length, IfOk, IsTrue, OnErr, OnOk, slice_get, slice_set, take};
 ghost use Rattle.std.specs.Option.{option_copied};
 
 use std::alloc::{AllocError, Global};
@@ -93,6 +93,13 @@ impl<T: Drop> ListOf<T> {
         self.items[at] = item;
     }
 
+    /// Drops the items from a place on. The room that they took is kept.
+    pub fn truncate(&mut self, len: usize)
+        ensures { self.new ≡ take len self.old }
+    {
+        self.items.truncate(len);
+    }
+
     /// Keeps room for this many items more. The items stay.
     pub fn reserve(&mut self, more: usize) -> Result<(), AllocError>
         ensures { self.new ≡ self.old }
@@ -170,7 +177,8 @@ mod tests {
                 .is_some_and(|list| list.as_slice() == &[1u8, 2, 3][..])
         );
         assert!(rt; lists.get(2).is_none());
-        assert!(rt; lists.into_vec().len() == 2);
+        lists.truncate(1);
+        assert!(rt; lists.into_vec().len() == 1);
         Ok(())
     }
 }

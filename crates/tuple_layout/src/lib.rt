@@ -4,6 +4,10 @@
 ghost use Rattle.std.specs.Prelude.{◌≡◌, ℕ, length, IsOk, IsErrOf, IfOk};
 ghost use Rattle.tuple_layout.specs.Schemas.{HasColumns};
 
+mod cell;
+
+pub use cell::{Cell, CellList, Stored};
+pub use external_pointer::Pointer;
 use list_facts::ListOf;
 use std::alloc::{AllocError, Global};
 use std::marker::Model;

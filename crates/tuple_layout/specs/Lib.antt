@@ -2,3 +2,4 @@ pub mod Places
 pub mod Sizes
 pub mod Slices
 pub mod Schemas
+pub mod Tuples

@@ -1,2 +1,4 @@
 pub mod DataLemmas
 pub mod HeaderLemmas
+pub mod CellLemmas
+pub mod CellFaultLemmas

@@ -3,3 +3,5 @@ pub mod Sizes
 pub mod Slices
 pub mod Schemas
 pub mod Tuples
+pub mod Faults
+pub mod Reading

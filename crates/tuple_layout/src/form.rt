@@ -6,7 +6,7 @@ ghost use Rattle.tuple_layout.specs.Tuples.{IsWithinLimits, cell_bytes, inline_b
 
 use crate::cell::{Cell, Stored};
 use crate::header::header_of;
-use crate::size::{KEY_SIZE, LONGEST_SHORT, POINTER_SIZE, aligned, column_end, row_size};
+use crate::size::{KEY_SIZE, LONGEST_SHORT, POINTER_SIZE, column_end, padding, row_size};
 use crate::{Bytes, Schema, Storage};
 use external_pointer::write_pointer;
 use std::alloc::{AllocError, Global};
@@ -14,10 +14,9 @@ use varlena_form::{write_plain, write_short};
 
 /// Appends the zeros up to the next multiple of 4.
 fn put_padding(at: usize, out: &mut Vec<u8>) -> Result<(), AllocError>
-    requires { at ≤ 2 ^ 32 }
     ensures { OnOk result (out.new.items ≡ out.old.items ++ padding at) }
 {
-    out.extend_from_slice(&[0; 3][..aligned(at) - at])?;
+    out.extend_from_slice(&[0; 3][..padding(at)])?;
     Ok(())
 }
 
@@ -28,8 +27,7 @@ fn put_inline(
     value: &[u8],
     out: &mut Vec<u8>,
 ) -> Result<(), AllocError>
-    requires place { at ≤ 2 ^ 32 }
-    requires limit { length value.now ≤ 65536 }
+    requires { length value.now ≤ 65536 }
     ensures { OnOk result (out.new.items ≡ out.old.items ++ inline_bytes storage at value.now) }
 {
     if storage == Storage::External && value.len() <= LONGEST_SHORT {

@@ -12,16 +12,16 @@ use crate::size::header_size;
 const LONGEST_HEADER: usize = 32;
 
 /// Where the number of columns stands, in two bytes of which the second is 0.
-const COLUMNS_AT: usize = 18;
+pub(crate) const COLUMNS_AT: usize = 18;
 
 /// Where the flags stand, in two bytes of which the second is 0.
-const FLAGS_AT: usize = 20;
+pub(crate) const FLAGS_AT: usize = 20;
 
 /// Where the place of the data stands.
-const DATA_START_AT: usize = 22;
+pub(crate) const DATA_START_AT: usize = 22;
 
 /// Where the bitmap stands, if a column is null.
-const BITMAP_AT: usize = 23;
+pub(crate) const BITMAP_AT: usize = 23;
 
 /// Whether a column is null.
 pub(crate) fn has_null(cells: &[Cell]) -> bool

@@ -5,14 +5,19 @@ ghost use Rattle.std.specs.Prelude.{◌≡◌, ℕ, length, IsOk, IsErrOf, IfOk}
 ghost use Rattle.tuple_layout.specs.Schemas.{HasColumns};
 
 mod cell;
+mod fault;
 mod form;
 mod header;
+mod read;
+mod read_cell;
 mod size;
 
 pub use cell::{Cell, CellList, Stored};
 pub use external_pointer::Pointer;
+pub use fault::TupleFault;
 pub use form::form_tuple;
 use list_facts::ListOf;
+pub use read::read_tuple;
 pub use size::{column_end, header_size, row_size};
 use std::alloc::{AllocError, Global};
 use std::marker::Model;

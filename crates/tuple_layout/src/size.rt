@@ -10,7 +10,7 @@ use crate::header::has_null;
 use crate::{Schema, Storage};
 
 /// What a tuple's header takes before its bitmap, in bytes.
-const FIXED_HEADER_SIZE: usize = 23;
+pub(crate) const FIXED_HEADER_SIZE: usize = 23;
 
 /// What a pointer to a value out of line takes, in bytes.
 pub(crate) const POINTER_SIZE: usize = 18;
@@ -21,12 +21,12 @@ pub(crate) const KEY_SIZE: usize = 8;
 /// The longest value that has a header of one byte.
 pub(crate) const LONGEST_SHORT: usize = 126;
 
-/// The place in the data where a datum that is aligned begins, if the data before it end at `at`.
-pub(crate) fn aligned(at: usize) -> usize
-    requires { at ≤ 2 ^ 32 }
-    ensures { result ≡ aligned at }
+/// How many zeros stand before a datum that is aligned, if the data before it end at `at`.
+pub(crate) fn padding(at: usize) -> usize
+    ensures aligned { at + result ≡ aligned at }
+    ensures few { result ≤ 3 }
 {
-    at.div_ceil(4) * 4
+    (4 - at % 4) % 4
 }
 
 /// Where an inline value of so many bytes ends, if the data before it end at `at`.
@@ -38,7 +38,7 @@ fn inline_end(storage: Storage, at: usize, length: usize) -> usize
     if storage == Storage::External && length <= LONGEST_SHORT {
         at + 1 + length
     } else {
-        aligned(at) + 4 + length
+        at + padding(at) + 4 + length
     }
 }
 

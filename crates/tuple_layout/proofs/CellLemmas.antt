@@ -17,7 +17,7 @@ use Rattle.tuple_layout.specs.declared.Storage.{Storage}
 use Rattle.tuple_layout.specs.declared.Storage.TheVariants.{Plain, External}
 use Rattle.tuple_layout.specs.declared.cell.Cell.{Cell}
 use Rattle.tuple_layout.specs.declared.cell.Cell.TheVariants.{Null, Inline, Out}
-use Rattle.tuple_layout.specs.Sizes.{aligned, longest_short}
+use Rattle.tuple_layout.specs.Sizes.{aligned, longest_short, inline_end}
 use Rattle.tuple_layout.specs.Tuples.{cell_bytes, inline_bytes, padding, HasForm}
 use Rattle.tuple_layout.specs.Faults.{StandsFirst, NoneStands, HoldsCompressed, PointsToCompressed, IsCompressed}
 use Rattle.tuple_layout.specs.Reading.{IsAligned, IsCompressedPointer, NoPointer}
@@ -99,9 +99,9 @@ odd_cell : (storage : Storage) (at : ℕ) (rest : List ℕ) (cell : Cell) (after
 odd_cell storage at rest Null after odd h = absurd (cc (h.there))
 odd_cell storage at rest (Inline value) after odd h = elim (spelled storage at value) [
   | as_short kind few is ↦ let front : rest ≡ short_form value ++ after = h.front ∙ ap (λ (x : List ℕ). x ++ after) is in
-  as_short value refl kind (begins_front rest (short value) after few front) front
+      as_short value refl kind (begins_front rest (short value) after few front) front
   | as_plain kind is ↦ let front : rest ≡ padding at ++ (plain_form value ++ after) = h.front ∙ ap (λ (x : List ℕ). x ++ after) is ∙ append_assoc (padding at) (plain_form value) after in
-  absurd (odd_not_padded at rest (plain_form value ++ after) front (plain_even value after) odd)
+      absurd (odd_not_padded at rest (plain_form value ++ after) front (plain_even value after) odd)
 ]
 odd_cell storage at rest (Out p) after odd h = as_out p refl h.form (begins_front rest (external (pointer_bytes p)) after (pointer_fits p) h.front) h.front
 
@@ -139,7 +139,7 @@ even_cell : (storage : Storage) (at : ℕ) (rest : List ℕ) (cell : Cell) (afte
 even_cell storage at rest Null after even h = absurd (cc (h.there))
 even_cell storage at rest (Inline value) after even h = elim (spelled storage at value) [
   | as_short kind few is ↦
-  absurd (even_or_odd rest even (subst (λ (x : List ℕ). IsOdd x) (sym (h.front ∙ ap (λ (x : List ℕ). x ++ after) is)) (short_odd value after)))
+      absurd (even_or_odd rest even (subst (λ (x : List ℕ). IsOdd x) (sym (h.front ∙ ap (λ (x : List ℕ). x ++ after) is)) (short_odd value after)))
   | as_plain kind is ↦ record {
     value = value;
     is = refl;
@@ -156,14 +156,14 @@ pub refuse_even : (storage : Storage) (at : ℕ) (rest : List ℕ) → IsEven re
     → ((payload body : List ℕ) (n : ℕ) → rest ≡ padding at ++ body → BeginsWith body (compressed payload) n → ⊥) → NoneStands storage at rest × ¬ (IsCompressed at rest)
 refuse_even storage at rest even no_plain no_compressed = (
   λ cell after h.
-  let found = even_cell storage at rest cell after even h in
-  no_plain found.value _ _ found.padded found.kind found.begins,
+      let found = even_cell storage at rest cell after even h in
+      no_plain found.value _ _ found.padded found.kind found.begins,
   λ h. elim h [
     | inl held ↦ no_compressed held.payload held.tail held.len held.padded held.begins
     | inr points ↦
-    let begins = points_begin rest points in
-    let first : get_or rest 0 0 ≡ 1 = sym (get_or-take 18 rest 0 0 (omega arith)) ∙ begins.fits.1 in
-    even_or_odd rest even (omega arith)
+        let begins = points_begin rest points in
+        let first : get_or rest 0 0 ≡ 1 = sym (get_or-take 18 rest 0 0 (omega arith)) ∙ begins.fits.1 in
+        even_or_odd rest even (omega arith)
   ],
 )
 
@@ -173,3 +173,15 @@ plain_front Plain at value after kind = sym (append_assoc (padding at) (plain_fo
 plain_front External at value after kind =
     let test : nat_le (length value) longest_short ≡ false = grind (arith, nat_tests) in
     rw test (sym (append_assoc (padding at) (plain_form value) after))
+
+-- where an inline value ends
+pub inline_end_of : (storage : Storage) (at : ℕ) (value : List ℕ) → at + length (inline_bytes storage at value) ≡ inline_end storage at (length value)
+inline_end_of Plain at value = omega (arith, length-append (padding at) (plain_form value), length-replicate (aligned at - at) zero, length-plain_form value)
+inline_end_of External at value = elim (cases_lt 126 (length value)) [
+  | inl long ↦
+      let test : nat_le (length value) longest_short ≡ false = grind (arith, nat_tests) in
+      rw test (let all : at + length (padding at ++ plain_form value) ≡ aligned at + 4 + length value = omega (arith, length-append (padding at) (plain_form value), length-replicate (aligned at - at) zero, length-plain_form value) in all)
+  | inr few ↦
+      let test : nat_le (length value) longest_short ≡ true = grind (arith, nat_tests) in
+      rw test (let all : at + length (short_form value) ≡ at + 1 + length value = omega (arith, length-short_form value) in all)
+]

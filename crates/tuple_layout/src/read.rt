@@ -108,6 +108,7 @@ fn read_columns(
     requires { 8 ≤ length data.now }
     ensures found { IfOk result (λ x. HoldsFirst schema.now bitmap data.now x.0 (drop x.1 data.now)) }
     ensures all { IfOk result (λ x. length x.0 ≡ length schema.now) }
+    ensures few { IfOk result (λ x. length x.0 ≤ 8) }
     ensures end { IfOk result (λ x. (x.1 ≡ end_of schema.now x.0) × (x.1 ≤ length data.now)) }
     ensures fault { IfErr result (IsColumnsFault schema.now bitmap data.now) }
 {
@@ -116,7 +117,8 @@ fn read_columns(
     for storage in schema.storages() {
         let column = cells.len() as u16 + 1;
         let there = is_present(bitmap, column);
-        let (cell, size) = read_column(alloc, column, *storage, there, &data[at..], at)?;
+        let (_, rest) = data.split_at(at);
+        let (cell, size) = read_column(alloc, column, *storage, there, rest, at)?;
         cells.push(cell)?;
         at += size;
     }
@@ -144,13 +146,13 @@ pub fn read_tuple(alloc: Global, schema: &Schema, bytes: &[u8]) -> Result<Stored
     ensures fault { IfErr result (IsFault schema.now bytes.now) }
 {
     let start = read_front(schema, bytes)?;
-    let data = &bytes[start..];
+    let (front, data) = bytes.split_at(start);
     let (cells, end) = read_columns(alloc, schema, read_bitmap(bytes), data)?;
     if end < data.len() {
         return Err(TupleFault::Rest { at: start + end });
     }
     let (header, size) = header_of(cells.as_slice());
-    if &bytes[..start] != &header[..size] {
+    if front != &header[..size] {
         return Err(TupleFault::BadHeader);
     }
     let key = read_key(data);

@@ -80,11 +80,7 @@ fn strip_padding(rest: &[u8], at: usize) -> Option<&[u8]>
 }
 
 /// Reads a cell that is not aligned, whose first byte is odd: a short datum or a pointer.
-fn read_unaligned(
-    alloc: Global,
-    storage: Storage,
-    rest: &[u8],
-) -> Result<(Cell, usize), CellFault>
+fn read_unaligned(alloc: Global, storage: Storage, rest: &[u8]) -> Result<(Cell, usize), CellFault>
     requires { slice_index rest.now 0 % 2 ≡ 1 }
     ensures found { (at : ℕ) → IfOk result (λ x. StandsFirst storage at rest.now x.0 (drop x.1 rest.now)) }
     ensures within { IfOk result (λ x. x.1 ≤ length rest.now) }

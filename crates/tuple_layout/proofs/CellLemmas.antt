@@ -88,14 +88,14 @@ begins_front : (rest : List ℕ) (d : Datum) (after : List ℕ) → HasSpelling 
 begins_front rest d after fits is = subst (λ (x : List ℕ). BeginsWith x d (length (spelling d))) (sym is) (spelling_begins d after fits)
 
 -- a cell with an odd first byte
-data OddCell (storage : Storage) (rest : List ℕ) (cell : Cell) (after : List ℕ) : Type 0 where
+pub data OddCell (storage : Storage) (rest : List ℕ) (cell : Cell) (after : List ℕ) : Type 0 where
   as_short : (value : List ℕ) → cell ≡ Inline value → storage ≡ External → BeginsWith rest (short value) (length (short_form value)) → rest ≡ short_form value ++ after → OddCell storage rest cell after
   as_out : (p : Pointer) → cell ≡ Out p → IsInRange p → BeginsWith rest (external (pointer_bytes p)) (length (pointer_bytes p)) → rest ≡ pointer_bytes p ++ after → OddCell storage rest cell after
 
 pointer_fits : (p : Pointer) → HasSpelling (external (pointer_bytes p))
 pointer_fits p = (length-pointer_bytes p, (pointer_bytes-front p).0, (pointer_bytes-front p).1)
 
-odd_cell : (storage : Storage) (at : ℕ) (rest : List ℕ) (cell : Cell) (after : List ℕ) → IsOdd rest → StandsFirst storage at rest cell after → OddCell storage rest cell after
+pub odd_cell : (storage : Storage) (at : ℕ) (rest : List ℕ) (cell : Cell) (after : List ℕ) → IsOdd rest → StandsFirst storage at rest cell after → OddCell storage rest cell after
 odd_cell storage at rest Null after odd h = absurd (cc (h.there))
 odd_cell storage at rest (Inline value) after odd h = elim (spelled storage at value) [
   | as_short kind few is ↦ let front : rest ≡ short_form value ++ after = h.front ∙ ap (λ (x : List ℕ). x ++ after) is in
@@ -105,7 +105,7 @@ odd_cell storage at rest (Inline value) after odd h = elim (spelled storage at v
 ]
 odd_cell storage at rest (Out p) after odd h = as_out p refl h.form (begins_front rest (external (pointer_bytes p)) after (pointer_fits p) h.front) h.front
 
-points_begin : (rest : List ℕ) → PointsToCompressed rest → BeginsWith rest (external (take 18 rest)) 18
+pub points_begin : (rest : List ℕ) → PointsToCompressed rest → BeginsWith rest (external (take 18 rest)) 18
 points_begin rest h =
     let len : length (take 18 rest) ≡ 18 = h.fault.0.len in
     record { fits = (len, h.fault.0.header, h.fault.0.tag); front = refl; len = sym len }
@@ -128,14 +128,14 @@ refuse_odd storage at rest odd no_short no_out no_compressed = (
 -- ---- what begins with an even byte
 
 -- a cell with an even first byte
-record EvenCell (storage : Storage) (at : ℕ) (rest : List ℕ) (cell : Cell) (after : List ℕ) : Type 0 where
+pub record EvenCell (storage : Storage) (at : ℕ) (rest : List ℕ) (cell : Cell) (after : List ℕ) : Type 0 where
   pub value : List ℕ
   pub is : cell ≡ Inline value
   pub kind : IsAligned storage (length value)
   pub padded : rest ≡ padding at ++ (plain_form value ++ after)
   pub begins : BeginsWith (plain_form value ++ after) (plain value) (length (plain_form value))
 
-even_cell : (storage : Storage) (at : ℕ) (rest : List ℕ) (cell : Cell) (after : List ℕ) → IsEven rest → StandsFirst storage at rest cell after → EvenCell storage at rest cell after
+pub even_cell : (storage : Storage) (at : ℕ) (rest : List ℕ) (cell : Cell) (after : List ℕ) → IsEven rest → StandsFirst storage at rest cell after → EvenCell storage at rest cell after
 even_cell storage at rest Null after even h = absurd (cc (h.there))
 even_cell storage at rest (Inline value) after even h = elim (spelled storage at value) [
   | as_short kind few is ↦
@@ -185,3 +185,16 @@ inline_end_of External at value = elim (cases_lt 126 (length value)) [
       let test : nat_le (length value) longest_short ≡ true = grind (arith, nat_tests) in
       rw test (let all : at + length (short_form value) ≡ at + 1 + length value = omega (arith, length-short_form value) in all)
 ]
+
+pub parity : (rest : List ℕ) → IsEven rest ⊎ IsOdd rest
+parity rest = elim (cases_lt (get_or rest 0 0 % 2) 1) [ inl lt ↦ inl (omega arith) | inr le ↦ inr (omega arith) ]
+
+pub odd_compressed : (at : ℕ) (rest : List ℕ) → IsOdd rest → HoldsCompressed at rest → ⊥
+odd_compressed at rest odd held =
+    odd_not_padded at rest held.tail held.padded (subst (λ (x : List ℕ). IsEven x) (sym (begins_split held.tail (compressed held.payload) held.len held.begins)) (compressed_even held.payload (drop held.len held.tail))) odd
+
+pub even_points : (rest : List ℕ) → IsEven rest → PointsToCompressed rest → ⊥
+even_points rest even points =
+    let begins = points_begin rest points in
+    let first : get_or rest 0 0 ≡ 1 = sym (get_or-take 18 rest 0 0 (omega arith)) ∙ begins.fits.1 in
+    even_or_odd rest even (omega arith)

@@ -31,11 +31,11 @@ length-cell_bytes storage at Null = omega arith
 length-cell_bytes storage at (Inline value) = inline_end_of storage at value
 length-cell_bytes storage at (Out p) = omega (arith, length-pointer_bytes p)
 
-data_from-nil : (at : ℕ) (schema : List Storage) → data_from at schema [] ≡ []
+pub data_from-nil : (at : ℕ) (schema : List Storage) → data_from at schema [] ≡ []
 data_from-nil at [] = refl
 data_from-nil at (s ∷ ss) = refl
 
-end-nil : (at : ℕ) (schema : List Storage) → data_end_from at schema [] ≡ at
+pub end-nil : (at : ℕ) (schema : List Storage) → data_end_from at schema [] ≡ at
 end-nil at [] = refl
 end-nil at (s ∷ ss) = refl
 

@@ -29,13 +29,14 @@ fn read_front(schema: &Schema, bytes: &[u8]) -> Result<usize, TupleFault>
     ensures header { IfOk result (λ start. HasHeader schema.now bytes.now × (start ≡ start_in bytes.now)) }
     ensures key { IfOk result (λ start. start + 8 ≤ length bytes.now) }
     ensures fault { IfErr result (IsFault schema.now bytes.now) }
+    ensures few { length schema.now ≤ 8 }
 {
+    let columns = schema.storages().len() + 1;
     if bytes.len() < FIXED_HEADER_SIZE {
         return Err(TupleFault::Short {
             need: FIXED_HEADER_SIZE,
         });
     }
-    let columns = schema.storages().len() + 1;
     let has_null = u16_at(bytes, FLAGS_AT) & 1 == 1;
     let start = bytes[DATA_START_AT] as usize;
     if u16_at(bytes, COLUMNS_AT) as usize != columns || start != header_size(columns, has_null) {
@@ -136,14 +137,11 @@ fn read_key(data: &[u8]) -> i64
     bits.cast_signed()
 }
 
-/// Reads the stored row that these bytes are the tuple of.
-///
-/// A fault is the first check that fails. Pointers are read in a PLAIN column too, and inline values
-/// of any length.
-pub fn read_tuple(alloc: Global, schema: &Schema, bytes: &[u8]) -> Result<Stored, TupleFault>
-    // What is read has these bytes, and a fault is the first check that fails.
+/// Reads the parts of a tuple from left to right.
+fn read_parts(alloc: Global, schema: &Schema, bytes: &[u8]) -> Result<Stored, TupleFault>
     ensures found { IfOk result (λ stored. HasTuple schema.now stored × (bytes.now ≡ tuple schema.now stored)) }
     ensures fault { IfErr result (IsFault schema.now bytes.now) }
+    ensures few { length schema.now ≤ 8 }
 {
     let start = read_front(schema, bytes)?;
     let (front, data) = bytes.split_at(start);
@@ -157,4 +155,20 @@ pub fn read_tuple(alloc: Global, schema: &Schema, bytes: &[u8]) -> Result<Stored
     }
     let key = read_key(data);
     Ok(Stored { key, cells })
+}
+
+/// Reads the stored row that these bytes are the tuple of.
+///
+/// A fault is the first check that fails. Pointers are read in a PLAIN column too, and inline values
+/// of any length.
+pub fn read_tuple(alloc: Global, schema: &Schema, bytes: &[u8]) -> Result<Stored, TupleFault>
+    // What is read has these bytes, and what has these bytes is read: the round trip.
+    ensures found { IfOk result (λ stored. HasTuple schema.now stored × (bytes.now ≡ tuple schema.now stored)) }
+    ensures again { (stored : Stored) → HasTuple schema.now stored → bytes.now ≡ tuple schema.now stored → result ≢ Err TupleFault.Memory → result ≡ Ok stored }
+
+    // Each fault comes exactly where its check is the first that fails.
+    ensures fault { IfErr result (IsFault schema.now bytes.now) }
+    ensures fault_only { (f : TupleFault) → f ≢ TupleFault.Memory → IsFault schema.now bytes.now f → result ≢ Err TupleFault.Memory → result ≡ Err f }
+{
+    read_parts(alloc, schema, bytes)
 }

@@ -1,22 +1,21 @@
 -- What the readers of a column answer, from what they found.
-use Rattle.std.proofs.Common.{◌≡◌, ℕ, ◌+◌, ◌<◌, ◌≤◌, ◌%◌, ◌-◌, List, [], ◌∷◌, ◌++◌, length, take, drop, get_or, refl, sym, ap, subst, ◌∙◌, append_assoc, arith, inl, inr, ◌⊎◌}
+use Rattle.std.proofs.Common.{◌≡◌, ℕ, ◌+◌, ◌≤◌, ◌-◌, List, [], ◌∷◌, ◌++◌, length, take, drop, refl, sym, ap, subst, ◌∙◌, arith, inr}
 use Rattle.std.specs.Prelude.{replicate}
 use Rattle.tuple_layout.specs.Sizes.{aligned}
-use Rattle.std.proofs.lemmas.List.{append_cancel_left, length-replicate, take-replicate, length-append, drop_at, drop-drop, take-append-drop}
-use Rattle.varlena_form.specs.Spelling.{Datum, short, plain, compressed, external, short_form, plain_form, BeginsWith}
-use Rattle.varlena_form.proofs.Front.{begins_split, begins_within}
+use Rattle.std.proofs.lemmas.List.{append_cancel_left, length-replicate, take-replicate, drop_at, drop-drop}
+use Rattle.varlena_form.specs.Spelling.{Datum, short, plain, compressed, external, BeginsWith}
+use Rattle.varlena_form.proofs.Front.{begins_split}
 use Rattle.varlena_form.proofs.Only.{one_datum}
-use Rattle.external_pointer.specs.declared.external.Pointer.{Pointer}
-use Rattle.external_pointer.specs.Spelling.{IsInRange, pointer_bytes}
+use Rattle.external_pointer.specs.Spelling.{pointer_bytes}
 use Rattle.tuple_layout.specs.declared.Storage.{Storage}
-use Rattle.tuple_layout.specs.declared.Storage.TheVariants.{Plain, External}
+use Rattle.tuple_layout.specs.declared.Storage.TheVariants.{Plain}
 use Rattle.tuple_layout.specs.declared.cell.Cell.{Cell}
-use Rattle.tuple_layout.specs.declared.cell.Cell.TheVariants.{Null, Inline, Out}
+use Rattle.tuple_layout.specs.declared.cell.Cell.TheVariants.{Inline}
 use Rattle.tuple_layout.specs.declared.read_cell.CellFault.{CellFault}
 use Rattle.tuple_layout.specs.declared.read_cell.CellFault.TheVariants.{Compressed, Bad, Memory}
 use Rattle.tuple_layout.specs.Tuples.{padding}
-use Rattle.tuple_layout.specs.Faults.{StandsFirst, NoneStands, HoldsCompressed, PointsToCompressed, IsCompressed}
-use Rattle.tuple_layout.specs.Reading.{IsAligned, IsCompressedPointer, NoPointer, IsOutFault, IsCellFault, IsMisplaced}
+use Rattle.tuple_layout.specs.Faults.{StandsFirst, NoneStands, IsCompressed}
+use Rattle.tuple_layout.specs.Reading.{IsAligned, IsCompressedPointer, IsOutFault, IsCellFault, IsMisplaced}
 use Rattle.tuple_layout.proofs.CellLemmas.{IsOdd, IsEven, refuse_odd, refuse_even, plain_front}
 
 same : (rest : List ℕ) (d e : Datum) (m n : ℕ) → BeginsWith rest d m → BeginsWith rest e n → d ≡ e

@@ -1,26 +1,22 @@
 -- What stands at the front of the data where a cell does.
-use Rattle.std.proofs.Common.{◌≡◌, ℕ, zero, suc, ◌+◌, ◌-◌, ◌*◌, ◌/◌, ◌%◌, ◌^◌, ◌<◌, ◌≤◌, Bool, true, false, ltb, leb, List, [], ◌∷◌, ◌++◌, length, take, drop, get_or, refl, sym, ap, subst, ◌∙◌, append_assoc, arith, inl, inr, ◌⊎◌}
-use Rattle.std.specs.Prelude.{replicate, nat_le, if◌then◌else◌}
-use Rattle.std.specs.Int.{w32, to_le_bytes}
-use Rattle.std.proofs.lemmas.List.{append_cancel_left, length-append, length-take, length-replicate, get_or-take, take-append-drop}
+use Rattle.std.proofs.Common.{◌≡◌, ℕ, zero, suc, ◌+◌, ◌-◌, ◌%◌, ◌≤◌, true, false, List, ◌++◌, length, take, drop, get_or, refl, sym, ap, subst, ◌∙◌, append_assoc, arith, inl, inr, ◌⊎◌}
+use Rattle.std.specs.Prelude.{replicate, nat_le}
+use Rattle.std.proofs.lemmas.List.{length-append, length-replicate, get_or-take}
 use Rattle.std.proofs.lemmas.Bool.{cases_lt}
 use Rattle.std.proofs.lemmas.Bool.Decides.{nat_tests}
 use Rattle.varlena_form.specs.Spelling.{Datum, short, plain, compressed, external, short_form, plain_form, compressed_form, spelling, HasSpelling, BeginsWith}
 use Rattle.varlena_form.proofs.Front.{begins_split, spelling_begins, length-short_form, length-plain_form}
-use Rattle.varlena_form.proofs.Only.{one_datum, one_spelling}
 use Rattle.external_pointer.specs.declared.external.Pointer.{Pointer}
 use Rattle.external_pointer.specs.Spelling.{IsInRange, pointer_bytes}
-use Rattle.external_pointer.specs.Fault.{IsFault as IsPointerFault}
-use Rattle.external_pointer.specs.declared.fault.PointerFault.TheVariants.{Compressed as CompressedOut}
-use Rattle.external_pointer.proofs.Spelled.{length-pointer_bytes, pointer_bytes-front, one_pointer}
+use Rattle.external_pointer.proofs.Spelled.{length-pointer_bytes, pointer_bytes-front}
 use Rattle.tuple_layout.specs.declared.Storage.{Storage}
 use Rattle.tuple_layout.specs.declared.Storage.TheVariants.{Plain, External}
 use Rattle.tuple_layout.specs.declared.cell.Cell.{Cell}
 use Rattle.tuple_layout.specs.declared.cell.Cell.TheVariants.{Null, Inline, Out}
 use Rattle.tuple_layout.specs.Sizes.{aligned, longest_short, inline_end}
-use Rattle.tuple_layout.specs.Tuples.{cell_bytes, inline_bytes, padding, HasForm}
+use Rattle.tuple_layout.specs.Tuples.{cell_bytes, inline_bytes, padding}
 use Rattle.tuple_layout.specs.Faults.{StandsFirst, NoneStands, HoldsCompressed, PointsToCompressed, IsCompressed}
-use Rattle.tuple_layout.specs.Reading.{IsAligned, IsCompressedPointer, NoPointer}
+use Rattle.tuple_layout.specs.Reading.{IsAligned, IsCompressedPointer}
 
 -- ---- first bytes
 

@@ -1,28 +1,25 @@
 -- Columns that are read one after the other.
-use Rattle.std.proofs.Common.{◌≡◌, ℕ, ◌+◌, ◌-◌, ◌*◌, ◌/◌, ◌<◌, ◌≤◌, Bool, true, false, List, [], ◌∷◌, ◌++◌, length, take, drop, get_or, Option, Some, refl, sym, ap, subst, ◌∙◌, append_assoc, arith, inl, inr, ◌⊎◌}
+use Rattle.std.proofs.Common.{◌≡◌, ℕ, ◌+◌, ◌<◌, ◌≤◌, Bool, true, false, List, [], ◌∷◌, ◌++◌, length, take, drop, get_or, Option, refl, sym, ap, subst, ◌∙◌, append_assoc, arith, inl, inr}
 use Rattle.std.specs.Prelude.{not}
 use Rattle.std.specs.Str.{bytes_eq}
 use Rattle.std.proofs.lemmas.Slice.Eq.{bytes_eq-Decides}
-use Rattle.std.specs.List.{All}
 use Rattle.std.specs.Int.RustNames.{FitsSigned}
 use Rattle.std.specs.Int.{w64}
-use Rattle.std.proofs.lemmas.List.{append-nil, length-append, length-replicate, length_push, length-drop, drop-drop, drop_all, drop_at, take-append-drop, get_or_append_left, get_or_push, get_or_default}
+use Rattle.std.proofs.lemmas.List.{append-nil, length-append, length_push, length-drop, drop-drop, drop_all, take-append-drop, get_or_append_left, get_or_push, get_or_default}
 use Rattle.std.proofs.lemmas.List.Elements.{All-nil, All-push}
 use Rattle.std.proofs.lemmas.Bool.{cases_lt}
-use Rattle.varlena_form.specs.Spelling.{short_form, plain_form}
-use Rattle.varlena_form.proofs.Front.{length-short_form, length-plain_form}
 use Rattle.external_pointer.proofs.Spelled.{length-pointer_bytes}
 use Rattle.tuple_layout.specs.declared.Storage.{Storage}
-use Rattle.tuple_layout.specs.declared.Storage.TheVariants.{Plain, External}
+use Rattle.tuple_layout.specs.declared.Storage.TheVariants.{Plain}
 use Rattle.tuple_layout.specs.declared.cell.Cell.{Cell}
 use Rattle.tuple_layout.specs.declared.cell.Cell.TheVariants.{Null, Inline, Out}
 use Rattle.tuple_layout.specs.declared.cell.Stored.{Stored}
 use Rattle.tuple_layout.specs.declared.fault.TupleFault.{TupleFault}
 use Rattle.tuple_layout.specs.declared.fault.TupleFault.TheVariants.{Short, BadHeader, Compressed, BadColumn, Rest, Memory}
-use Rattle.tuple_layout.specs.Sizes.{aligned, inline_end, column_end, data_end_from}
-use Rattle.tuple_layout.specs.Tuples.{cell_width, cell_widths, padding, inline_bytes, cell_bytes, data_from, key_bytes, header, tuple, HasForm, HasTuple, is_there}
+use Rattle.tuple_layout.specs.Sizes.{column_end, data_end_from}
+use Rattle.tuple_layout.specs.Tuples.{cell_width, cell_widths, cell_bytes, data_from, key_bytes, header, tuple, HasForm, HasTuple, is_there}
 use Rattle.tuple_layout.specs.Faults.{HasHeader, HoldsCells, HasOtherHeader, GoesPast, IsFault, bitmap_in, is_present, start_in, end_of, next_storage}
-use Rattle.tuple_layout.specs.Reading.{HoldsFirst, StopsIn, IsColumn, IsColumnFault, IsColumnsFault, IsAligned}
+use Rattle.tuple_layout.specs.Reading.{HoldsFirst, IsColumn, IsColumnFault, IsColumnsFault}
 use Rattle.tuple_layout.proofs.CellLemmas.{inline_end_of}
 
 -- where a cell's bytes end

@@ -1,10 +1,10 @@
 -- The data of a tuple, column by column.
-use Rattle.std.proofs.Common.{◌≡◌, ℕ, ◌+◌, ◌*◌, ◌<◌, ◌≤◌, true, false, Bool, List, [], ◌∷◌, ◌||◌, length, drop, get_or, map, refl, sym, ap, ◌∙◌, arith, min}
+use Rattle.std.proofs.Common.{◌≡◌, ℕ, ◌+◌, ◌*◌, ◌<◌, true, false, Bool, List, [], ◌∷◌, ◌||◌, length, drop, get_or, map, refl, sym, ap, ◌∙◌, arith, min}
 use Rattle.std.specs.List.{list_any}
 use Rattle.std.proofs.lemmas.List.{drop_more, drop_all}
 use Rattle.tuple_layout.specs.declared.Storage.{Storage}
 use Rattle.tuple_layout.specs.declared.cell.Cell.{Cell}
-use Rattle.tuple_layout.specs.Sizes.{column_end, data_end_from, size, header_size, is_missing}
+use Rattle.tuple_layout.specs.Sizes.{data_end_from, header_size, is_missing}
 use Rattle.std.specs.Prelude.{if◌then◌else◌, not}
 use Rattle.std.specs.Int.{from_bool}
 use Rattle.tuple_layout.specs.Tuples.{cell_width, cell_widths, row_size, is_there, number_of_bits}

@@ -1,14 +1,14 @@
 -- What stands in the data is determined by them: a cell, and the cells of the first columns.
-use Rattle.std.proofs.Common.{◌≡◌, ℕ, zero, suc, ◌+◌, ◌%◌, ◌<◌, ◌≤◌, Bool, true, false, List, [], ◌∷◌, ◌++◌, length, take, drop, get_or, Option, refl, sym, ap, subst, ◌∙◌, append_assoc, arith, inl, inr, ◌⊎◌}
+use Rattle.std.proofs.Common.{◌≡◌, ℕ, suc, ◌+◌, ◌<◌, ◌≤◌, Bool, true, List, [], ◌∷◌, ◌++◌, length, take, drop, get_or, refl, sym, ap, subst, ◌∙◌, append_assoc, arith, inl, inr}
 use Rattle.std.specs.List.{All}
 use Rattle.std.proofs.lemmas.List.{append_cancel_left, append-nil, length-append, drop_more, get_or_at}
 use Rattle.std.proofs.lemmas.List.Elements.{All-head, All-tail, All-get_or}
 use Rattle.std.proofs.lemmas.Bool.{cases_lt}
-use Rattle.varlena_form.specs.Spelling.{Datum, short, plain, compressed, external, short_form, plain_form, spelling, BeginsWith}
+use Rattle.varlena_form.specs.Spelling.{short, plain, compressed, external, plain_form, BeginsWith}
 use Rattle.varlena_form.proofs.Only.{one_datum, one_spelling}
 use Rattle.external_pointer.specs.declared.external.Pointer.{Pointer}
 use Rattle.external_pointer.specs.declared.fault.PointerFault.TheVariants.{Compressed as CompressedOut}
-use Rattle.external_pointer.specs.Spelling.{IsInRange, pointer_bytes}
+use Rattle.external_pointer.specs.Spelling.{pointer_bytes}
 use Rattle.external_pointer.specs.Fault.{IsFault as IsPointerFault}
 use Rattle.external_pointer.proofs.Spelled.{one_pointer, no_fault}
 use Rattle.tuple_layout.specs.declared.Storage.{Storage}
@@ -18,7 +18,7 @@ use Rattle.tuple_layout.specs.declared.cell.Cell.TheVariants.{Null, Inline, Out}
 use Rattle.tuple_layout.specs.Sizes.{column_end, data_end_from}
 use Rattle.tuple_layout.specs.Tuples.{cell_width, cell_widths, cell_bytes, data_from, padding, HasForm, is_there}
 use Rattle.tuple_layout.specs.Faults.{StandsFirst, NoneStands, IsCompressed, HoldsCompressed, PointsToCompressed, HoldsCells, bitmap_in, is_present, end_of, next_storage}
-use Rattle.tuple_layout.proofs.CellLemmas.{IsOdd, IsEven, OddCell, as_short, as_out, odd_cell, EvenCell, even_cell, points_begin, odd_compressed, even_points, parity}
+use Rattle.tuple_layout.proofs.CellLemmas.{OddCell, as_short, as_out, odd_cell, EvenCell, even_cell, points_begin, odd_compressed, even_points, parity}
 use Rattle.tuple_layout.proofs.ColumnLemmas.{data_from-nil, end-nil}
 
 -- ---- one cell

@@ -1,7 +1,7 @@
 -- What the header of a tuple says is what the row has.
-use Rattle.std.proofs.Common.{◌≡◌, ℕ, ℤ, zero, suc, ◌+◌, ◌-◌, ◌*◌, ◌/◌, ◌%◌, ◌^◌, ◌<◌, ◌≤◌, Bool, true, false, eqb, List, [], ◌∷◌, ◌++◌, length, map, take, drop, get_or, Option, Some, None, refl, sym, ap, subst, ◌∙◌, append_assoc, arith, inl, inr, ◌⊎◌, ◌||◌}
+use Rattle.std.proofs.Common.{◌≡◌, ℕ, ℤ, zero, suc, ◌+◌, ◌-◌, ◌*◌, ◌/◌, ◌%◌, ◌^◌, ◌<◌, ◌≤◌, Bool, true, false, List, [], ◌∷◌, ◌++◌, length, map, take, drop, get_or, Option, Some, None, refl, sym, ap, ◌∙◌, append_assoc, arith, inl, inr, ◌⊎◌, ◌||◌}
 use Rattle.std.specs.Prelude.{not, replicate, if◌then◌else◌, ◌==◌}
-use Rattle.std.specs.List.{list_any, All}
+use Rattle.std.specs.List.{list_any}
 use Rattle.std.specs.Int.{w16, w64, to_le_bytes, from_le_bytes, cast_signed, cast_unsigned}
 use Rattle.std.proofs.lemmas.Int.{to_z-of_z, ints}
 use Rattle.std.proofs.lemmas.Nat.{from_le_bytes-to_le_bytes_8}
@@ -13,9 +13,10 @@ use Rattle.std.proofs.lemmas.List.{length-map, length-append, length-replicate, 
 use Rattle.tuple_layout.specs.declared.Storage.{Storage}
 use Rattle.tuple_layout.specs.declared.cell.Cell.{Cell}
 use Rattle.tuple_layout.specs.declared.cell.Stored.{Stored}
-use Rattle.tuple_layout.specs.Sizes.{Width, Missing, is_missing, header_size}
-use Rattle.tuple_layout.specs.Tuples.{cell_width, cell_widths, is_there, flags, number_of_bits, present_bits, bitmap, padded, data_start, header, key_bytes, data_from, tuple, HasForm, HasTuple}
-use Rattle.tuple_layout.specs.Faults.{HasHeader, HoldsCells, columns_in, null_in, start_in, bitmap_in, is_present}
+use Rattle.tuple_layout.specs.Sizes.{Width, is_missing, header_size, column_end, data_end_from}
+use Rattle.tuple_layout.specs.Tuples.{cell_width, cell_widths, is_there, flags, number_of_bits, present_bits, bitmap, data_start, header, key_bytes, cell_bytes, data_from, tuple, row_size, HasTuple}
+use Rattle.tuple_layout.proofs.ColumnLemmas.{length-cell_bytes}
+use Rattle.tuple_layout.specs.Faults.{HoldsCells, columns_in, null_in, start_in, bitmap_in, is_present}
 
 -- ---- bits
 
@@ -200,3 +201,23 @@ one_row schema s t few has others cells same =
     let keys : key_bytes s.key ≡ key_bytes t.key =
     sym (front_key schema s few has) ∙ ap (λ (n : ℕ). take 8 (drop n (tuple schema s))) places ∙ ap (λ (x : List ℕ). take 8 (drop (data_start (cell_widths t.cells)) x)) same ∙ front_key schema t few others in
     same_stored s t (one_key s.key t.key has.key others.key keys) cells
+
+-- ---- the size
+
+length-data : (at : ℕ) (schema : List Storage) (cells : List Cell) → at + length (data_from at schema cells) ≡ data_end_from at schema (cell_widths cells)
+length-data at [] cells = omega arith
+length-data at (s ∷ ss) [] = omega arith
+length-data at (s ∷ ss) (c ∷ cs) =
+    let next = column_end s at (cell_width c) in
+    omega (arith, length-append (cell_bytes s at c) (data_from next ss cs), length-cell_bytes s at c, length-data next ss cs)
+
+-- a tuple has the size of its row
+pub length-tuple : (schema : List Storage) (s : Stored) → length schema ≤ 8 → length s.cells ≡ length schema → length (tuple schema s) ≡ row_size schema s.cells
+length-tuple schema s few all =
+    let ws = cell_widths s.cells in
+    let len : length ws ≡ length s.cells = length-map s.cells cell_width in
+    let small : length ws ≤ 8 = omega arith in
+    let start : data_start ws ≡ header_size (length schema + 1) (list_any is_missing ws) = ap (λ (n : ℕ). header_size (n + 1) (list_any is_missing ws)) (len ∙ all) in
+    let rest = key_bytes s.key ++ data_from 8 schema s.cells in
+    let parts : length (tuple schema s) ≡ data_start ws + length rest = length-append (header ws) rest ∙ ap (λ (n : ℕ). n + length rest) (length-header ws small) in
+    omega (arith, parts, start, length-append (key_bytes s.key) (data_from 8 schema s.cells), length-data 8 schema s.cells)

@@ -11,7 +11,7 @@ use Rattle.tuple_layout.specs.declared.Storage.TheVariants.{Plain, External}
 use Rattle.tuple_layout.specs.declared.cell.Cell.{Cell}
 use Rattle.tuple_layout.specs.declared.cell.Cell.TheVariants.{Null, Inline, Out}
 use Rattle.tuple_layout.specs.declared.cell.Stored.{Stored}
-use Rattle.tuple_layout.specs.Sizes.{Width, Missing, Within, Outside, is_missing, longest_short, aligned, column_end, data_end_from, header_size, size}
+use Rattle.tuple_layout.specs.Sizes.{Width, Missing, Within, Outside, is_missing, longest_short, aligned, column_end, header_size, size}
 
 -- how a cell stands in a tuple
 abbrev pub cell_width : Cell → Width

@@ -2,7 +2,7 @@
 
 ghost use Rattle.std.specs.Prelude.{◌≡◌, ◌≤◌, ◌<◌, ◌^◌, ◌+◌, ◌++◌, length, IfOk, OnOk, vec_len};
 ghost use Rattle.std.specs.List.{All};
-ghost use Rattle.tuple_layout.specs.Tuples.{IsWithinLimits, cell_bytes, inline_bytes, key_bytes, padding, tuple};
+ghost use Rattle.tuple_layout.specs.Tuples.{IsWithinLimits, cell_bytes, inline_bytes, key_bytes, padding, row_size, tuple};
 
 use crate::cell::{Cell, Stored};
 use crate::header::header_of;
@@ -68,22 +68,35 @@ fn put_key(key: &i64, out: &mut Vec<u8>) -> Result<(), AllocError>
     Ok(())
 }
 
-/// The tuple of a stored row, which has a cell for each column.
-pub fn form_tuple(alloc: Global, schema: &Schema, stored: &Stored) -> Result<Bytes, AllocError>
+/// Appends the tuple of a stored row.
+fn put_tuple(schema: &Schema, stored: &Stored, out: &mut Vec<u8>) -> Result<(), AllocError>
     requires one_each { length stored.now.cells ≡ length schema.now }
     requires limits { All IsWithinLimits stored.now.cells }
-    ensures { IfOk result (λ bytes. bytes ≡ tuple schema.now stored.now) }
+    ensures tuple { OnOk result (out.new.items ≡ out.old.items ++ tuple schema.now stored.now) }
+    ensures few { OnOk result (length schema.now ≤ 8) }
 {
     let cells = stored.cells.as_slice();
     let storages = schema.storages();
     let (header, data_start) = header_of(cells);
-    let mut out = Vec::with_capacity(alloc, row_size(schema, cells))?;
     out.extend_from_slice(&header[..data_start])?;
-    put_key(&stored.key, &mut out)?;
+    put_key(&stored.key, out)?;
     let mut at = KEY_SIZE;
     for (storage, cell) in storages.iter().zip(cells) {
-        put_cell(*storage, at, cell, &mut out)?;
+        put_cell(*storage, at, cell, out)?;
         at = column_end(*storage, at, cell);
     }
+    Ok(())
+}
+
+/// The tuple of a stored row, which has a cell for each column, in a buffer of its size.
+pub fn form_tuple(alloc: Global, schema: &Schema, stored: &Stored) -> Result<Bytes, AllocError>
+    requires one_each { length stored.now.cells ≡ length schema.now }
+    requires limits { All IsWithinLimits stored.now.cells }
+    ensures tuple { IfOk result (λ bytes. bytes ≡ tuple schema.now stored.now) }
+    ensures size { IfOk result (λ bytes. length bytes ≡ row_size schema.now stored.now.cells) }
+{
+    let size = row_size(schema, stored.cells.as_slice());
+    let mut out = Vec::with_capacity(alloc, size)?;
+    put_tuple(schema, stored, &mut out)?;
     Ok(Bytes::from_vec(out))
 }

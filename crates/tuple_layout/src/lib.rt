@@ -108,27 +108,4 @@ impl Schema {
 }
 
 #[cfg(test)]
-mod tests {
-    use super::{Schema, SchemaFault, Storage};
-
-    fn columns_of(made: &Result<Schema, SchemaFault>) -> usize {
-        match made {
-            Ok(schema) => schema.storages().len(),
-            Err(_) => 0,
-        }
-    }
-
-    #[test]
-    fn a_table_has_one_to_eight_columns(rt: HostRuntime) {
-        let alloc = rt.alloc();
-        let nine = [Storage::External; 9];
-        for columns in 1..9 {
-            let made = Schema::new(alloc, &nine[..columns]);
-            assert_eq!(rt; columns_of(&made), columns);
-        }
-        for columns in [0, 9] {
-            let made = Schema::new(alloc, &nine[..columns]);
-            assert!(rt; matches!(&made, Err(SchemaFault::Count { got }) if *got == columns));
-        }
-    }
-}
+mod tests;

@@ -1,7 +1,5 @@
-use Rattle.std.proofs.Common.{◌≡◌, ◌≤◌, ◌+◌, ◌<◌, [], ◌∷◌, sym, ap, ◌∙◌, arith, length, get_or}
-use Rattle.std.specs.Int.{w16, to_le_bytes}
+use Rattle.std.proofs.Common.{◌≡◌, ◌+◌, sym, ◌∙◌, arith, length}
 use Rattle.std.proofs.lemmas.List.{length-map}
-use Rattle.tuple_layout.specs.Sizes.{header_size}
 use Rattle.tuple_layout.specs.Tuples.{cell_width, cell_widths, data_start, present_bits}
 use Rattle.tuple_layout.proofs.HeaderLemmas.{front_plain, front_null, start_is, two_of}
 use Rattle.tuple_layout.proofs.header.header_of.Goals as goal

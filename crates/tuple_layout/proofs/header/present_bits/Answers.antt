@@ -1,4 +1,4 @@
-use Rattle.std.proofs.Common.{◌≡◌, ap, sym, ◌∙◌, arith}
+use Rattle.std.proofs.Common.{◌≡◌}
 use Rattle.std.specs.Prelude.{if◌then◌else◌}
 use Rattle.tuple_layout.specs.Tuples.{cell_width, is_there}
 use Rattle.tuple_layout.proofs.DataLemmas.{bit_is, bits_more, bit_adds}

@@ -1,7 +1,7 @@
-use Rattle.std.proofs.Common.{◌≡◌, ◌<◌, ◌+◌, [], ℕ, length, drop, get_or, refl, sym, ap, ◌∙◌, arith}
+use Rattle.std.proofs.Common.{◌≡◌, ◌<◌, ◌+◌, [], ℕ, length, drop, refl, sym, ap, ◌∙◌, arith}
 use Rattle.std.proofs.lemmas.List.{length_push, length-drop}
 use Rattle.std.proofs.lemmas.Result.{err_from_is_err_and}
-use Rattle.tuple_layout.specs.Faults.{end_of, is_present}
+use Rattle.tuple_layout.specs.Faults.{is_present}
 use Rattle.tuple_layout.proofs.ColumnLemmas.{end_none, holds_none, end_more, holds_more, stops_in, storage_is}
 use Rattle.tuple_layout.proofs.read.read_columns.Goals as goal
 

@@ -1,4 +1,4 @@
-use Rattle.std.proofs.Common.{◌≡◌, ◌≤◌, List, length, take, drop, sym, ap, subst, arith, ◌∙◌, inr}
+use Rattle.std.proofs.Common.{◌≡◌, List, sym, ap, arith, ◌∙◌, inr}
 use Rattle.std.proofs.lemmas.Result.{err_from_is_err_and}
 use Rattle.std.proofs.lemmas.Int.{to_z-of_z, ints}
 use Rattle.std.specs.Int.RustNames.{FitsSigned}

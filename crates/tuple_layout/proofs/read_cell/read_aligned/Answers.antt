@@ -1,6 +1,4 @@
-use Rattle.std.proofs.Common.{◌≡◌, ℕ, List, sym, refl, arith, subst}
 use Rattle.std.proofs.lemmas.Result.{err_from_is_err_and}
-use Rattle.tuple_layout.specs.Reading.{IsMisplaced}
 use Rattle.tuple_layout.proofs.CellFaultLemmas.{even_unpadded, even_plain, plain_stands, even_short, even_external, even_other, padding_long}
 use Rattle.tuple_layout.proofs.read_cell.read_aligned.Goals as goal
 

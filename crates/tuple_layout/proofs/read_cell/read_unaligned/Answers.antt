@@ -1,4 +1,3 @@
-use Rattle.std.proofs.Common.{◌≡◌, sym, refl, arith}
 use Rattle.std.proofs.lemmas.Result.{err_from_is_err_and}
 use Rattle.tuple_layout.proofs.CellFaultLemmas.{odd_none, odd_short, odd_out}
 use Rattle.tuple_layout.proofs.CellLemmas.{odd_not_plain, odd_not_compressed}

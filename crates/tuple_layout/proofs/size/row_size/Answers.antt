@@ -1,4 +1,4 @@
-use Rattle.std.proofs.Common.{◌≡◌, sym, refl, arith, rules, length, min}
+use Rattle.std.proofs.Common.{◌≡◌, rules, length, min}
 use Rattle.std.proofs.lemmas.Slice.Zip.{zip_end}
 use Rattle.tuple_layout.proofs.DataLemmas.{end_all, size_is}
 use Rattle.tuple_layout.proofs.size.row_size.Goals as goal

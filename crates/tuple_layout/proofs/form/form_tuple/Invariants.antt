@@ -1,9 +1,0 @@
-use Rattle.std.proofs.Common.{◌≡◌, ◌≤◌, ◌+◌, ◌*◌, ◌++◌, length, drop}
-use Rattle.tuple_layout.specs.Tuples.{cell_widths, data_from, tuple}
-use Rattle.tuple_layout.proofs.form.form_tuple.Given as goal
-
-abbrev pub invariant-loop-storage : goal.invariant-loop-storage
-invariant-loop-storage l = record {
-  bound : l.at ≤ 8 + 65543 * length l.yielded;
-  rest : l.out.items ++ data_from l.at (drop (length l.yielded) l.fn.schema) (drop (length l.yielded) l.fn.stored.cells) ≡ tuple l.fn.schema l.fn.stored;
-}

@@ -1,5 +1,5 @@
 -- No entry changes how many sessions there are.
-use Rattle.std.proofs.Common.{◌≡◌, ℕ, ◌-◌, List, Option, Some, None, Bool, true, false, length, refl, ap, ◌∙◌}
+use Rattle.std.proofs.Common.{◌≡◌, ℕ, ◌-◌, List, Option, Some, None, Bool, true, false, length, refl, ◌∙◌}
 use Rattle.std.specs.Prelude.{is_some, if◌then◌else◌, map as mapped}
 use Rattle.std.proofs.lemmas.List.{length-map, length-set}
 use Rattle.tuple_layout.specs.declared.Storage.{Storage}
@@ -19,7 +19,7 @@ use Rattle.command_set.specs.declared.state.Transaction.{Transaction}
 use Rattle.command_set.specs.Plain.{session_of, with_session}
 use Rattle.command_set.specs.Replies.{fails, is_granted, reply_of, rewriter_of, transaction_of}
 use Rattle.command_set.specs.Answers.{answer, effect, once_used, refused, settled, table_of, told_by, with_failure, with_use}
-use Rattle.command_set.specs.Journals.{after_kind, after_moment, command_at, without_upkeep}
+use Rattle.command_set.specs.Journals.{after_kind, command_at, without_upkeep}
 
 -- how many sessions a state has
 abbrev pub seats : Plain → ℕ

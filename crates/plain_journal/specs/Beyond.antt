@@ -1,5 +1,5 @@
 -- Where a journal's answers name a size beyond its type.
-use Rattle.std.specs.Prelude.{Bool, true, false, List, [], ◌∷◌, ◌||◌}
+use Rattle.std.specs.Prelude.{Bool, false, List, [], ◌∷◌, ◌||◌}
 use Rattle.std.specs.Option.{option_map_or}
 use Rattle.command_set.specs.declared.Script.{Script}
 use Rattle.command_set.specs.declared.JournalEntry.{JournalEntry}

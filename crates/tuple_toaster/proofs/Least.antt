@@ -1,6 +1,6 @@
 -- All values out of line that may be give the least size.
-use Rattle.std.proofs.Common.{◌≡◌, ℕ, zero, suc, ◌+◌, ◌-◌, ◌*◌, ◌/◌, ◌<◌, ◌≤◌, Bool, true, false, List, [], ◌∷◌, Option, Some, None, length, map, refl, sym, ap, ◌∙◌, arith, inl, inr, ◌⊎◌}
-use Rattle.std.specs.Prelude.{nat_le, slice_get, if◌then◌else◌, ◌||◌}
+use Rattle.std.proofs.Common.{◌≡◌, ℕ, suc, ◌+◌, ◌-◌, ◌≤◌, Bool, true, false, List, [], ◌∷◌, Option, Some, None, length, map, refl, sym, ap, ◌∙◌, arith, inl, inr}
+use Rattle.std.specs.Prelude.{nat_le, slice_get, ◌||◌}
 use Rattle.std.specs.List.{list_any, enumerate_from}
 use Rattle.std.specs.Option.{option_map_or}
 use Rattle.std.proofs.lemmas.Bool.Decides.{nat_tests}
@@ -8,7 +8,7 @@ use Rattle.std.proofs.lemmas.Bool.{cases_lt}
 use Rattle.tuple_layout.specs.declared.Storage.{Storage}
 use Rattle.tuple_layout.specs.declared.Storage.TheVariants.{Plain, External}
 use Rattle.tuple_layout.specs.Places.{Row}
-use Rattle.tuple_layout.specs.Sizes.{Width, Missing, Within, Outside, width, widths, is_missing, aligned, inline_end, column_end, data_end_from, header_size, size, least_out, longest_short, is_eligible, is_eligible_column, all_out_size}
+use Rattle.tuple_layout.specs.Sizes.{Width, width, widths, is_missing, aligned, inline_end, column_end, data_end_from, header_size, size, least_out, is_eligible, is_eligible_column, all_out_size}
 
 -- ---- one column
 
@@ -48,11 +48,11 @@ same_missing (Some v) false false = refl
 -- ---- all columns
 
 -- the widths of the values from a column on
-abbrev widths_from : ℕ → Row → (ℕ → Bool) → List Width
+abbrev pub widths_from : ℕ → Row → (ℕ → Bool) → List Width
 widths_from n values out = map (λ (column, value). width value (out column)) (enumerate_from n values)
 
 -- from a column on, all is what may be out of line, and out is some of it
-abbrev Agrees : ℕ → List Storage → Row → (ℕ → Bool) → (ℕ → Bool) → Type 0
+abbrev pub Agrees : ℕ → List Storage → Row → (ℕ → Bool) → (ℕ → Bool) → Type 0
 Agrees n schema [] all out = Unit {0}
 Agrees n [] (v ∷ vs) all out = Unit {0}
 Agrees n (s ∷ ss) (v ∷ vs) all out = (all n ≡ is_eligible s v) × (out n ≡ true → is_eligible s v ≡ true) × Agrees (n + 1) ss vs all out
@@ -69,10 +69,10 @@ null_same n [] all out = refl
 null_same n (v ∷ vs) all out = ap (λ (b : Bool). b || list_any is_missing (widths_from (n + 1) vs all)) (same_missing v (all n) (out n)) ∙ ap (λ (b : Bool). is_missing (width v (out n)) || b) (null_same (n + 1) vs all out)
 
 -- whether the value at a place may be out of line
-abbrev eligible_at : List Storage → Row → ℕ → Bool
+abbrev pub eligible_at : List Storage → Row → ℕ → Bool
 eligible_at schema values k = option_map_or (λ storage. option_map_or (is_eligible storage) (slice_get values k) false) (slice_get schema k) false
 
-agrees : (n : ℕ) (schema : List Storage) (values : Row) (all out : ℕ → Bool) → ((k : ℕ) → all (n + k) ≡ eligible_at schema values k) → ((k : ℕ) → out (n + k) ≡ true → eligible_at schema values k ≡ true) → Agrees n schema values all out
+pub agrees : (n : ℕ) (schema : List Storage) (values : Row) (all out : ℕ → Bool) → ((k : ℕ) → all (n + k) ≡ eligible_at schema values k) → ((k : ℕ) → out (n + k) ≡ true → eligible_at schema values k ≡ true) → Agrees n schema values all out
 agrees n schema [] all out h g = tt
 agrees n [] (v ∷ vs) all out h g = tt
 agrees n (s ∷ ss) (v ∷ vs) all out h g =

@@ -1,10 +1,8 @@
 -- The columns that may go out, in their order, and what moving the first of them leaves.
-use Rattle.std.proofs.Common.{◌≡◌, ℕ, ◌+◌, ◌<◌, ◌≤◌, Bool, true, false, List, [], ◌∷◌, ◌++◌, Option, Some, None, length, map, drop, refl, sym, ap, ◌∙◌, arith, inl, inr, ◌⊎◌}
+use Rattle.std.proofs.Common.{◌≡◌, ℕ, ◌+◌, ◌<◌, ◌≤◌, Bool, true, false, List, [], ◌∷◌, ◌++◌, Option, Some, None, length, refl, sym, ap, ◌∙◌, arith, inl, inr, ◌⊎◌}
 use Rattle.std.specs.Prelude.{nat_le, ◌==◌, ◌||◌, if◌then◌else◌}
-use Rattle.std.specs.List.{list_any}
 use Rattle.std.proofs.lemmas.Bool.Decides.{nat_tests}
 use Rattle.std.proofs.lemmas.Bool.{cases_lt, cases_eq}
-use Rattle.std.proofs.lemmas.List.Folds.{list_any-append}
 use Rattle.tuple_layout.specs.declared.Storage.{Storage}
 use Rattle.tuple_layout.specs.declared.Storage.TheVariants.{Plain, External}
 use Rattle.tuple_layout.specs.Sizes.{Width, Missing, Within, Outside, least_out}
@@ -24,7 +22,7 @@ Descends [] = Unit {0}
 Descends (c ∷ cs) = HeadAtMost c.1 cs × Descends cs
 
 -- each column has at least this number
-abbrev AreFrom : ℕ → Columns → Type 0
+abbrev pub AreFrom : ℕ → Columns → Type 0
 AreFrom n [] = Unit {0}
 AreFrom n (c ∷ cs) = (n ≤ c.0) × AreFrom n cs
 
@@ -33,10 +31,10 @@ abbrev pub without : ℕ → Columns → Columns
 without column [] = []
 without column (c ∷ cs) = if c.0 == column then cs else c ∷ without column cs
 
-test_cases : (m n : ℕ) → ((m ≤ n) × (nat_le m n ≡ true)) ⊎ ((n < m) × (nat_le m n ≡ false))
+pub test_cases : (m n : ℕ) → ((m ≤ n) × (nat_le m n ≡ true)) ⊎ ((n < m) × (nat_le m n ≡ false))
 test_cases m n = elim (cases_lt n m) [ inl lt ↦ inr (lt, grind (arith, nat_tests)) | inr le ↦ inl (le, grind (arith, nat_tests)) ]
 
-same_cases : (m n : ℕ) → ((m ≡ n) × ((m == n) ≡ true)) ⊎ ((m ≡ n → ⊥) × ((m == n) ≡ false))
+pub same_cases : (m n : ℕ) → ((m ≡ n) × ((m == n) ≡ true)) ⊎ ((m ≡ n → ⊥) × ((m == n) ≡ false))
 same_cases m n = elim (cases_eq m n) [ inl e ↦ inl (e, grind (arith, nat_tests)) | inr d ↦ inr (d, grind (arith, nat_tests)) ]
 
 head_put : (n : ℕ) (c : ℕ × ℕ) (cs : Columns) → HeadAtMost n cs → c.1 ≤ n → HeadAtMost n (put_before c cs)
@@ -82,7 +80,7 @@ eligible_descends column [] ws = tt
 eligible_descends column (s ∷ ss) [] = tt
 eligible_descends column (s ∷ ss) (w ∷ ws) = descends_with column s w (eligible_from (column + 1) ss ws) (eligible_descends (column + 1) ss ws)
 
-eligible_after : (column : ℕ) (schema : List Storage) (ws : List Width) → AreFrom column (eligible_from column schema ws)
+pub eligible_after : (column : ℕ) (schema : List Storage) (ws : List Width) → AreFrom column (eligible_from column schema ws)
 eligible_after column [] ws = tt
 eligible_after column (s ∷ ss) [] = tt
 eligible_after column (s ∷ ss) (w ∷ ws) = from_with column s w (eligible_from (column + 1) ss ws) (eligible_after (column + 1) ss ws)

@@ -1,8 +1,8 @@
 -- The walks over the columns, and the choice of one column after the other.
-use Rattle.std.proofs.Common.{◌≡◌, ℕ, ◌+◌, ◌-◌, ◌<◌, ◌≤◌, Bool, true, false, List, [], ◌∷◌, ◌++◌, Option, Some, None, length, map, drop, get_or, min, refl, sym, ap, ◌∙◌, append_assoc, arith, inl, inr, ◌⊎◌}
+use Rattle.std.proofs.Common.{◌≡◌, ℕ, ◌+◌, ◌<◌, ◌≤◌, Bool, true, false, List, [], ◌∷◌, ◌++◌, Option, Some, None, length, map, drop, get_or, min, refl, sym, ap, ◌∙◌, append_assoc, arith, inl, inr, ◌⊎◌}
 use Rattle.std.specs.Prelude.{nat_le, ◌||◌, if◌then◌else◌}
 use Rattle.std.specs.List.{list_any}
-use Rattle.std.proofs.lemmas.List.{drop_more, drop_all, length-map, length-drop, length_push, drop-map, append-nil, get_or_read}
+use Rattle.std.proofs.lemmas.List.{drop_more, drop_all, length_push, append-nil}
 use Rattle.std.proofs.lemmas.Bool.Decides.{nat_tests}
 use Rattle.tuple_layout.specs.declared.Storage.{Storage}
 use Rattle.tuple_layout.specs.declared.cell.Cell.{Cell}
@@ -170,3 +170,29 @@ all_pushed schema ws taken (c ∷ cs) =
 
 pub pushed_all : (schema : List Storage) (ws : List Width) → pushed schema ws 0 ≡ eligible schema ws
 pushed_all schema ws = all_pushed schema ws [] (eligible schema ws)
+
+-- ---- how the choice ends
+
+shortest_ends_by : (test : List ℕ → Bool) (taken : List ℕ) (c : ℕ) (cs : List ℕ) (b : Bool) → test taken ≡ b
+    → (test ((taken ++ c ∷ []) ++ shortest test (taken ++ c ∷ []) cs) ≡ true) ⊎ (shortest test (taken ++ c ∷ []) cs ≡ cs) → (test (taken ++ shortest test taken (c ∷ cs)) ≡ true) ⊎ (shortest test taken (c ∷ cs) ≡ c ∷ cs)
+shortest_ends_by test taken c cs true e rest = inl (ap (λ (x : List ℕ). test (taken ++ x)) (fits_now test taken (c ∷ cs) e) ∙ ap test (append-nil taken) ∙ e)
+shortest_ends_by test taken c cs false e rest =
+    let goes : shortest test taken (c ∷ cs) ≡ c ∷ shortest test (taken ++ c ∷ []) cs = ap (λ (b : Bool). if b then [] else c ∷ shortest test (taken ++ c ∷ []) cs) e in
+    elim rest [
+      | inl done ↦ inl (ap (λ (x : List ℕ). test (taken ++ x)) goes ∙ ap test (sym (append_assoc taken (c ∷ []) (shortest test (taken ++ c ∷ []) cs))) ∙ done)
+      | inr all ↦ inr (goes ∙ ap (λ (x : List ℕ). c ∷ x) all)
+    ]
+
+shortest_ends : (test : List ℕ → Bool) (taken left : List ℕ) → (test (taken ++ shortest test taken left) ≡ true) ⊎ (shortest test taken left ≡ left)
+shortest_ends test taken [] = inr refl
+shortest_ends test taken (c ∷ cs) = shortest_ends_by test taken c cs (test taken) refl (shortest_ends test (taken ++ c ∷ []) cs)
+
+within : (n target : ℕ) → nat_le n target ≡ true → n ≤ target
+within n target h = grind (arith, nat_tests)
+
+-- a row that is too large for the target has all out of line that may go
+pub large_has_all : (schema : List Storage) (ws : List Width) (target : ℕ) → target < size_with schema ws (pushed schema ws target) → size_with schema ws (pushed schema ws target) ≡ all_out_size schema ws
+large_has_all schema ws target large = elim (shortest_ends (λ out. nat_le (size_with schema ws out) target) [] (eligible schema ws)) [
+  | inl fit ↦ absurd (omega (arith, within (size_with schema ws (pushed schema ws target)) target fit, large))
+  | inr all ↦ ap (size_with schema ws) all
+]

@@ -96,6 +96,7 @@ pub fn plan(schema: &Schema, cells: &[Cell], target: usize) -> Result<OutColumns
     ensures fits { let columns = pushed schema.now (cell_widths cells.now) target in IsOk result → size_with schema.now (cell_widths cells.now) columns ≤ largest_tuple }
     ensures size { let columns = pushed schema.now (cell_widths cells.now) target in IfErr result (λ fault. fault.size ≡ size_with schema.now (cell_widths cells.now) columns) }
     ensures too_big { IfErr result (λ fault. largest_tuple < fault.size) }
+    ensures all_out { target ≤ largest_tuple → IfErr result (λ fault. fault.size ≡ all_out_size schema.now (cell_widths cells.now)) }
 {
     let out = choose(schema, cells, target);
     let size = size_with(schema, cells, &out);

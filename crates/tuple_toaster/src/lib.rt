@@ -10,7 +10,7 @@ mod law;
 
 pub use choice::{RowTooBig, all_out_size, plan};
 pub use columns::OutColumns;
-pub use law::least_size;
+pub use law::{least_size, one_all_out_size};
 
 #[cfg(test)]
 mod tests;

@@ -1,7 +1,7 @@
-use Rattle.std.proofs.Common.{◌≡◌, ◌<◌, ◌≤◌, [], length, sym, ap, ◌∙◌, arith}
+use Rattle.std.proofs.Common.{◌≡◌, ◌<◌, ◌≤◌, [], sym, arith}
 use Rattle.tuple_layout.specs.Tuples.{cell_widths}
 use Rattle.tuple_toaster.specs.Pushed.{size_with}
-use Rattle.tuple_toaster.proofs.Walks.{chosen_none, chosen_more, chosen_all, chosen_fits}
+use Rattle.tuple_toaster.proofs.Walks.{chosen_none, chosen_more, chosen_fits}
 use Rattle.tuple_toaster.proofs.choice.choose.Goals as goal
 
 pub loop-out-init : goal.loop-out-init

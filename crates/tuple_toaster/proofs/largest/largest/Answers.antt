@@ -1,7 +1,7 @@
-use Rattle.std.proofs.Common.{◌≡◌, ◌+◌, ◌<◌, length, arith, ap, ◌∙◌, rules, get_or, sym}
+use Rattle.std.proofs.Common.{◌+◌, length, ap, ◌∙◌, rules, sym}
 use Rattle.std.proofs.lemmas.List.{length_push}
-use Rattle.std.proofs.lemmas.Slice.Zip.{zip_turn, zip_end}
-use Rattle.tuple_toaster.proofs.Walks.{best_step, best_all}
+use Rattle.std.proofs.lemmas.Slice.Zip.{zip_turn}
+use Rattle.tuple_toaster.proofs.Walks.{best_step}
 use Rattle.tuple_toaster.proofs.largest.largest.Goals as goal
 
 pub loop-storage-preserved : goal.loop-storage-preserved

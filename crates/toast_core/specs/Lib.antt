@@ -1,2 +1,4 @@
 pub mod State
+pub mod Events
+pub mod Sound
 pub mod Stands

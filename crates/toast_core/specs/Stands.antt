@@ -10,7 +10,7 @@ use Rattle.command_set.specs.Plain.{Plain}
 use Rattle.command_set.specs.Plain as plain
 use Rattle.command_set.specs.Replies.{is_granted}
 use Rattle.command_set.specs.Answers.{answer, with_failure}
-use Rattle.command_set.specs.Journals.{takes_no_memory}
+use Rattle.command_set.specs.Journals.{is_data, takes_no_memory}
 use Rattle.command_set.specs.declared.Level.{Level}
 use Rattle.command_set.specs.declared.Command.{Command}
 use Rattle.command_set.specs.declared.Reply.{Reply}
@@ -71,11 +71,11 @@ is_past_moment (jobs.Submitted command) = false
 is_past_moment (jobs.Reading job) = true
 is_past_moment (jobs.Writing job) = true
 
--- what the moment of a command says of its reply: that is it, and the command is over; or it is granted, and the command goes on
-abbrev pub Says : Job → Advance → Reply → Type 0
-Says job advances.Idle reply = ⊥
-Says job advances.More reply = (is_granted reply ≡ true) × (is_past_moment job ≡ true)
-Says job (advances.Done said) reply = (said ≡ reply) × (job ≡ jobs.Idle)
+-- what the moment of a command says of its reply: that is it, and the command is over; or it is granted, and the command, a data command, goes on
+abbrev pub Says : Command → Job → Advance → Reply → Type 0
+Says command job advances.Idle reply = ⊥
+Says command job advances.More reply = (is_data command ≡ true) × (is_granted reply ≡ true) × (is_past_moment job ≡ true)
+Says command job (advances.Done said) reply = (said ≡ reply) × (job ≡ jobs.Idle)
 
 -- a later step of a command: it goes on, or it ends with the reply of its moment
 abbrev pub Ends : ℕ → Job → Advance → List (Option Reply) → Type 0
@@ -87,7 +87,7 @@ Ends i job (advances.Done said) replies = (slice_get replies i ≡ Some (Some sa
 abbrev pub Runs : CoreState → ℕ → Command → CoreState → Advance → Type 0
 Runs old s command new advance = (m : Plain) (replies : List (Option Reply)) → s - 1 < length replies → Stands old m replies →
     Stands new (answer old.schemas m s command).after (slice_set replies (s - 1) (Some (answer old.schemas m s command).reply))
-    × Says (seat_of new s).job advance (answer old.schemas m s command).reply
+    × Says command (seat_of new s).job advance (answer old.schemas m s command).reply
 
 -- a later step: the core stands for the same state
 abbrev pub Goes : CoreState → ℕ → CoreState → Advance → Type 0
@@ -129,8 +129,9 @@ pub record Falls (old : CoreState) (s : ℕ) (new : CoreState) : Type 0 where
   pub stands : (m : Plain) (replies : List (Option Reply)) → Stands old m replies → Stands new (with_failure m s) replies
   pub over : (seat_of new s).job ≡ jobs.Idle
 
--- the other sessions are as they were
+-- the tables and the other sessions are as they were
 pub record OthersStay (old : CoreState) (s : ℕ) (new : CoreState) : Type 0 where
+  pub schemas : new.schemas ≡ old.schemas
   pub count : length new.seats ≡ length old.seats
   pub each : (i : ℕ) → i ≢ s - 1 → slice_get new.seats i ≡ slice_get old.seats i
 

@@ -85,7 +85,7 @@ insertion p row = Insert p.table p.key row
 abbrev pub changes_by : List Piece → ℕ → List Version → List Change
 changes_by pieces xid [] = []
 changes_by pieces xid (version ∷ versions) =
-    if version.inserter == xid then insertion version.place (row_of pieces version) ∷ changes_by pieces xid versions else changes_by pieces xid versions
+    if xid == version.inserter then insertion version.place (row_of pieces version) ∷ changes_by pieces xid versions else changes_by pieces xid versions
 
 -- the same, where the transaction may have no xid yet
 abbrev pub own_changes : List Piece → Option ℕ → List Version → List Change

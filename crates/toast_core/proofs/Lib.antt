@@ -1,0 +1,9 @@
+pub mod Tests
+pub mod Pieces
+pub mod Versions
+pub mod Claims
+pub mod Seats
+pub mod Ends
+pub mod Reading
+pub mod Writing
+pub mod Putting

@@ -6,7 +6,8 @@ use Rattle.std.specs.Option.{option_map, option_map_or}
 use Rattle.std.proofs.lemmas.Bool.Decides.{nat_tests}
 use Rattle.tuple_layout.specs.declared.Place.{Place}
 use Rattle.tuple_layout.specs.Places.{same_place}
-use Rattle.command_set.specs.Changes.{Change, places_of, keys_of, is_named}
+use Rattle.command_set.specs.declared.state.Change.{Change}
+use Rattle.command_set.specs.Changes.{places_of, keys_of, is_named}
 use Rattle.toast_core.specs.declared.parts.Claim.{Claim}
 use Rattle.toast_core.specs.declared.parts.Seat.{Seat}
 use Rattle.toast_core.specs.State.{IsSession}

@@ -10,7 +10,8 @@ use Rattle.snapshot_registry.specs.Snapshots.{Snaps, is_registered, held_at, aft
 use Rattle.snapshot_registry.specs.declared.Held.{Held}
 use Rattle.snapshot_registry.proofs.Entries.{held_at_take, least_free_is_least}
 use Rattle.snapshot_registry.proofs.Moments.{registry_take, registry_release}
-use Rattle.command_set.specs.Changes.{Change, keys_of, is_named}
+use Rattle.command_set.specs.declared.state.Change.{Change}
+use Rattle.command_set.specs.Changes.{keys_of, is_named}
 use Rattle.toast_core.specs.declared.parts.Version.{Version}
 use Rattle.toast_core.specs.declared.parts.Piece.{Piece}
 use Rattle.toast_core.specs.declared.parts.Claim.{Claim}

@@ -8,7 +8,8 @@ use Rattle.tuple_layout.specs.declared.Place.{Place}
 use Rattle.xact_status.specs.Xacts.{Xacts, IsAssigned, session_at, is_running}
 use Rattle.xact_status.proofs.Places.{assigned_from_running}
 use Rattle.snapshot_registry.specs.Snapshots.{Snaps, is_registered}
-use Rattle.command_set.specs.Changes.{Change, keys_of, is_named}
+use Rattle.command_set.specs.declared.state.Change.{Change}
+use Rattle.command_set.specs.Changes.{keys_of, is_named}
 use Rattle.command_set.specs.declared.Command.{Command}
 use Rattle.toast_core.specs.declared.parts.Version.{Version}
 use Rattle.toast_core.specs.declared.parts.Piece.{Piece}

@@ -9,7 +9,9 @@ use Rattle.tuple_layout.specs.declared.Place.{Place}
 use Rattle.tuple_layout.specs.Places.{Row, Rows, same_place, get-put}
 use Rattle.xact_status.specs.Xacts.{Xacts, IsAssigned, is_running, is_committed}
 use Rattle.xact_status.proofs.Events.{running_is_uncommitted}
-use Rattle.command_set.specs.Changes.{Change, Insert, fold_changes, made, keys_of, is_named, place}
+use Rattle.command_set.specs.declared.state.Change.{Change}
+use Rattle.command_set.specs.declared.state.Change.TheVariants.{Insert}
+use Rattle.command_set.specs.Changes.{fold_changes, made, keys_of, is_named, place}
 use Rattle.toast_core.specs.declared.parts.Version.{Version}
 use Rattle.toast_core.specs.declared.parts.Piece.{Piece}
 use Rattle.toast_core.specs.State.{version_by, row_of, changes_by, own_changes, in_sight, is_own, is_alive, insertion}

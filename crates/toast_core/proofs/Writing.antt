@@ -14,7 +14,8 @@ use Rattle.snapshot_registry.specs.Snapshots.{Snaps}
 use Rattle.snapshot_registry.specs.Laws.{IsRegistryOf}
 use Rattle.snapshot_registry.proofs.Moments.{registry_assign}
 use Rattle.slice_fetch.specs.Spans.{chunk_size}
-use Rattle.command_set.specs.Changes.{Change, keys_of, is_named}
+use Rattle.command_set.specs.declared.state.Change.{Change}
+use Rattle.command_set.specs.Changes.{keys_of, is_named}
 use Rattle.toast_core.specs.declared.parts.Version.{Version}
 use Rattle.toast_core.specs.declared.parts.Piece.{Piece}
 use Rattle.toast_core.specs.declared.parts.Claim.{Claim}

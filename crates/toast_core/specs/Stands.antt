@@ -5,9 +5,10 @@ use Rattle.std.specs.FinMap as map
 use Rattle.tuple_layout.specs.declared.Place.{Place}
 use Rattle.tuple_layout.specs.Places.{Rows}
 use Rattle.xact_status.specs.Xacts.{Xacts, is_committed}
-use Rattle.command_set.specs.Changes.{Change}
-use Rattle.command_set.specs.Plain.{Plain}
-use Rattle.command_set.specs.Plain as plain
+use Rattle.command_set.specs.declared.state.Change.{Change}
+use Rattle.command_set.specs.declared.state.Plain.{Plain}
+use Rattle.command_set.specs.declared.state.Session.{Session}
+use Rattle.command_set.specs.declared.state.Session.TheVariants as plain
 use Rattle.command_set.specs.Replies.{is_granted}
 use Rattle.command_set.specs.Answers.{answer, with_failure}
 use Rattle.command_set.specs.Journals.{is_data, takes_no_memory}
@@ -35,7 +36,7 @@ pub data Standing : Type 0 where
   Open : Level → Option Rows → List Change → Standing
 
 -- what a session of the plain store is in
-abbrev pub standing_of : plain.Session → Standing
+abbrev pub standing_of : Session → Standing
 standing_of plain.Outside = Outside
 standing_of plain.Failed = Failed
 standing_of (plain.Open t) = Open t.level t.base t.changes

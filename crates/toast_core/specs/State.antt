@@ -7,7 +7,8 @@ use Rattle.tuple_layout.specs.declared.Storage.{Storage}
 use Rattle.tuple_layout.specs.Places.{Row, same_place}
 use Rattle.xact_status.specs.Xacts.{Xacts, is_running, is_committed}
 use Rattle.snapshot_registry.specs.Snapshots.{Snaps}
-use Rattle.command_set.specs.Changes.{Change, Insert, Update, Move, Remove}
+use Rattle.command_set.specs.declared.state.Change.{Change}
+use Rattle.command_set.specs.declared.state.Change.TheVariants.{Insert}
 use Rattle.command_set.specs.declared.Reply.{Reply}
 use Rattle.command_set.specs.declared.Reply.TheVariants as replies
 use Rattle.toast_core.specs.declared.parts.StoredValue.{StoredValue}

@@ -46,7 +46,7 @@ pub value_push : (pieces : List Piece) (piece : Piece) (value : StoredValue) →
 value_push pieces piece values.Null kept = refl
 value_push pieces piece (values.Inline bytes) kept = refl
 value_push pieces piece (values.Cut id size) kept =
-    ap (λ (xs : List ℕ). Some (take size xs)) (joined_push id pieces piece) ∙ ap (λ (xs : List ℕ). Some xs) (front_stays size (joined id pieces) (joined id (piece ∷ [])) kept)
+    ap (λ (xs : List ℕ). Some (take size xs)) (joined_push id pieces piece) ∙ ap (λ (xs : List ℕ). Some xs) (front_stays size (joined id pieces) (joined id (piece ∷ [])) kept.1)
 
 -- and its pieces are there still
 pub kept_push : (pieces : List Piece) (piece : Piece) (value : StoredValue) → IsKept pieces value → IsKept (pieces ++ piece ∷ []) value
@@ -54,7 +54,8 @@ kept_push pieces piece values.Null kept = tt
 kept_push pieces piece (values.Inline bytes) kept = tt
 kept_push pieces piece (values.Cut id size) kept =
     let longer : length (joined id (pieces ++ piece ∷ [])) ≡ length (joined id pieces) + length (joined id (piece ∷ [])) = ap length (joined_push id pieces piece) ∙ length-append (joined id pieces) (joined id (piece ∷ [])) in
-    omega (arith, longer, kept)
+    let enough = kept.1 in
+    (kept.0, omega (arith, longer, enough))
 
 -- no piece has an id that all are below
 pub joined_none : (bound id : ℕ) (pieces : List Piece) → AreBelow bound pieces → bound ≤ id → joined id pieces ≡ []

@@ -110,6 +110,7 @@ seat_piece : (xacts : Xacts) (snaps : Snaps) (claims : List Claim) (versions : L
     → ((job : WriteJob) (id : ℕ) → seat.job ≡ jobs.Writing job → job.value_id ≡ Some id → piece.value_id ≢ id) → AreVersions xacts pieces versions
     → SeatIsSound xacts snaps claims versions pieces t seat → SeatIsSound xacts snaps claims versions (pieces ++ piece ∷ []) t seat
 seat_piece xacts snaps claims versions pieces t seat piece differs versions_are sound = record {
+  level = sound.level;
   runs = sound.runs;
   claimed = λ p. sound.claimed p ∙ ap (λ (changes : List Change). is_named (keys_of (changes ++ coming seat.job)) p) (sym (own_piece (xid_of seat.state)));
   built = sound.built;
@@ -171,6 +172,7 @@ sound_piece_put c s job there is sound =
       pieces = below_push (first_id + length (c.pieces ++ piece ∷ [])) c.pieces piece (below_higher (first_id + length c.pieces) (first_id + length (c.pieces ++ piece ∷ [])) c.pieces (omega (arith, length-append c.pieces (piece ∷ []))) sound.pieces) low;
       each = each_seated c s (seat_of c s).state (jobs.Writing (put_on c.pieces job)) c.xacts c.snaps c.claims c.versions (c.pieces ++ piece ∷ []) there sound
           (record {
+            level = old.level;
             runs = old.runs;
             claimed = λ p. old.claimed p ∙ ap (λ (changes : List Change). is_named (keys_of changes) p) (ap (λ (more : List Change). own_changes c.pieces (xid_of (seat_of c s).state) c.versions ++ more) (ap coming is) ∙ ap (λ (changes : List Change). changes ++ insertion job.place (job.value ∷ []) ∷ []) (sym (own_piece (xid_of (seat_of c s).state))));
             built = λ command e. absurd (cc);
@@ -218,12 +220,14 @@ pub version_keeps : (xacts : Xacts) (versions : List Version) (pieces : List Pie
 version_keeps xacts versions pieces state job writing finished None is = (refl, tt)
 version_keeps xacts versions pieces state job writing finished (Some bytes) is = by (is_cut bytes) refl
   where
+    some : (xs : List ℕ) → is_cut xs ≡ true → 0 < length xs
+    some xs cut = grind (arith, nat_tests, cut)
     by : (b : Bool) → is_cut bytes ≡ b → (value_of pieces (cond b (values.Cut (unwrap_or job.value_id 0) (length bytes)) (values.Inline bytes)) ≡ Some bytes) × IsKept pieces (cond b (values.Cut (unwrap_or job.value_id 0) (length bytes)) (values.Inline bytes))
     by false e = (refl, tt)
     by true e =
         let whole = kept_whole xacts versions pieces state job writing finished bytes is e in
         let count : length (joined (unwrap_or job.value_id 0) pieces) ≡ length bytes = ap length whole in
-        (ap (λ (xs : List ℕ). Some (take (length bytes) xs)) whole ∙ ap Some (take-length bytes), omega (arith, count))
+        (ap (λ (xs : List ℕ). Some (take (length bytes) xs)) whole ∙ ap Some (take-length bytes), (some bytes e, omega (arith, count)))
 
 -- the changes of a transaction that has put the version of its write
 pub changes_put : (pieces : List Piece) (versions : List Version) (xid : ℕ) (job : WriteJob) → value_of pieces (stored job job.value) ≡ job.value
@@ -250,6 +254,7 @@ seat_version : (xacts : Xacts) (snaps : Snaps) (claims : List Claim) (versions :
     → xid_of seat.state ≢ Some v.inserter → ((job : WriteJob) → seat.job ≡ jobs.Writing job → same_place job.place v.place ≡ false)
     → SeatIsSound xacts snaps claims versions pieces t seat → SeatIsSound xacts snaps claims (versions ++ v ∷ []) pieces t seat
 seat_version xacts snaps claims versions pieces t seat v differ places sound = record {
+  level = sound.level;
   runs = sound.runs;
   claimed = λ p. sound.claimed p ∙ ap (λ (changes : List Change). is_named (keys_of (changes ++ coming seat.job)) p) (sym (changes_other pieces versions (xid_of seat.state) v differ));
   built = sound.built;
@@ -295,6 +300,7 @@ sound_version_put c s job xid there is own finished sound =
       pieces = sound.pieces;
       each = each_seated c s (seat_of c s).state jobs.Idle c.xacts c.snaps c.claims (c.versions ++ version_for job xid ∷ []) c.pieces there sound
           (record {
+            level = old.level;
             runs = old.runs;
             claimed = λ p. old.claimed p ∙ ap (λ (changes : List Change). is_named (keys_of changes) p) (same_changes keeps.0);
             built = λ command e. absurd (cc);

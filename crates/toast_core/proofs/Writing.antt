@@ -27,7 +27,8 @@ use Rattle.toast_core.specs.declared.parts.WriteJob.{WriteJob}
 use Rattle.toast_core.specs.declared.parts.Seat.{Seat}
 use Rattle.toast_core.specs.State.{CoreState, IsSession, seat_of, xid_of, own_changes, changes_by, changes_in, coming, insertion, joined, version_by, is_alive}
 use Rattle.toast_core.specs.Events.{seated, once_assigned, with_xid, bytes_of, is_cut, is_putting, first_id, id_for, next_bytes, put_on, stored, version_for}
-use Rattle.toast_core.specs.Sound.{SeatIsSound, IsSound, IsWriting, IsPut, IsKept, AreVersions, AreBelow, AreApart, Owns, holder_of, is_holder, is_open}
+use Rattle.toast_core.specs.Sound.{SeatIsSound, IsSound, IsWriting, IsPut, IsKept, AreVersions, AreBelow, AreApart, Owns, holder_of, is_holder, is_open, reads_committed}
+use Rattle.command_set.specs.declared.Level.TheVariants.{Rc, Rr}
 use Rattle.toast_core.proofs.Tests.{session_assign, alive_assign, runs_for, same_place_is}
 use Rattle.toast_core.proofs.Pieces.{joined_push, joined_other, joined_same, joined_none, below_higher, below_push}
 use Rattle.toast_core.proofs.Versions.{found_push, changes_push, changes_piece, changes_fresh, versions_piece, versions_push, versions_statuses, none_by_less}
@@ -91,6 +92,12 @@ xid_with states.Outside xid e = absurd (cc)
 xid_with states.Failed xid e = absurd (cc)
 xid_with (states.Open level own) xid e = refl
 
+level_with : (state : State) (xid : ℕ) → reads_committed state ≡ true → reads_committed (with_xid state xid) ≡ true
+level_with states.Outside xid e = refl
+level_with states.Failed xid e = refl
+level_with (states.Open Rc own) xid e = refl
+level_with (states.Open Rr own) xid e = absurd (cc)
+
 -- a write at its moment
 abbrev pub begun_write : Place → Option (List ℕ) → WriteJob
 begun_write p value = record { place = p; value = value; value_id = None; written = 0 }
@@ -106,7 +113,7 @@ apart_writing job other differ = (
 )
 
 -- the changes of a transaction that gets its xid are those that it had
-changes_begun : (xacts : Xacts) (pieces : List Piece) (versions : List Version) (own : Option ℕ) (xid : ℕ) → (own ≡ Some xid ⊎ ((own ≡ None) × (¬ (IsAssigned xacts xid)))) → AreVersions xacts pieces versions → changes_by pieces xid versions ≡ own_changes pieces own versions
+pub changes_begun : (xacts : Xacts) (pieces : List Piece) (versions : List Version) (own : Option ℕ) (xid : ℕ) → (own ≡ Some xid ⊎ ((own ≡ None) × (¬ (IsAssigned xacts xid)))) → AreVersions xacts pieces versions → changes_by pieces xid versions ≡ own_changes pieces own versions
 changes_begun xacts pieces versions own xid (inl e) sound = ap (λ (o : Option ℕ). own_changes pieces o versions) (sym e)
 changes_begun xacts pieces versions own xid (inr e) sound = changes_fresh xacts pieces xid versions sound e.1 ∙ ap (λ (o : Option ℕ). own_changes pieces o versions) (sym e.0)
 
@@ -126,6 +133,7 @@ seat_begun c s p value xacts xid there none inside begun free alone sound =
     let old = sound_of c s there sound in
     let has = xid_with (seat_of c s).state xid inside in
     record {
+      level = level_with (seat_of c s).state xid old.level;
       runs = λ x e. subst (λ (n : ℕ). session_at xacts n ≡ Some s) (some_is xid x (sym has ∙ e)) begun.mine;
       claimed = λ q.
           holder_claimed c.claims (record { session = s; place = p }) q s free

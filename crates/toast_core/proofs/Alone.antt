@@ -40,6 +40,7 @@ alone_by xacts (v ∷ versions) p runs commits =
     passed true true xid e = absurd (cc)
     passed true false xid e = e
     passed false own xid e = e
+
     put_here : same_place p v.place ≡ true → is_running xacts v.inserter ≡ true → ((xid : ℕ) → is_running xacts xid ≡ true → version_by (is_own (Some xid)) p (v ∷ versions) ≡ None) → ⊥
     put_here same running runs =
         let own : (v.inserter == v.inserter) ≡ true = grind (arith, nat_tests) in
@@ -50,6 +51,7 @@ alone_by xacts (v ∷ versions) p runs commits =
         clash true true e h none = absurd (cc)
         clash true false e h none = absurd (cc)
         clash false b e h none = absurd (cc)
+
     by : (same running committed : Bool) → same_place p v.place ≡ same → is_running xacts v.inserter ≡ running → ((xid : ℕ) → is_running xacts xid ≡ true → version_by (is_own (Some xid)) p (v ∷ versions) ≡ None)
         → cond (same && committed) (Some v) (version_by (is_committed xacts) p versions) ≡ None → (version_by (is_committed xacts) p versions ≡ None → version_by (is_alive xacts) p versions ≡ None)
         → cond (same && (running || committed)) (Some v) (version_by (is_alive xacts) p versions) ≡ None
@@ -69,6 +71,7 @@ own_free c s xid seat p sound own free =
     first : (a b : Bool) → (a || b) ≡ false → a ≡ false
     first false b e = refl
     first true b e = absurd (cc)
+
     none_of : (o : Option Version) → is_some o ≡ false → o ≡ None
     none_of None e = refl
     none_of (Some v) e = absurd (cc)
@@ -88,9 +91,11 @@ nobody_holds c s p there sound none unseen mine = by (holder_of c.claims p) refl
         by_first : (a : Bool) → a ≡ false → (a || false) ≡ false
         by_first false e = refl
         by_first true e = e
+
         or_left : (a b : Bool) → a ≡ true → (a || b) ≡ true
         or_left true b e = refl
         or_left false b e = absurd (cc)
+
     by : (o : Option ℕ) → holder_of c.claims p ≡ o → o ≡ None
     by None e = refl
     by (Some n) e =
@@ -106,17 +111,22 @@ no_version_counts c s p sound unseen free = alone_by c.xacts c.versions p runs c
   where
     own : Option ℕ
     own = xid_of (seat_of c s).state
+
     or_right : (a b : Bool) → b ≡ true → (a || b) ≡ true
     or_right true b e = refl
     or_right false b e = e
+
     commits : version_by (is_committed c.xacts) p c.versions ≡ None
     commits = none_by_less (in_sight c.xacts own) (is_committed c.xacts) p c.xacts c.pieces c.versions sound.versions (λ x given committed. or_right (is_own own x) (is_committed c.xacts x) committed) unseen
+
     some_at : (o : Option ℕ) → is_some o ≡ true → (n : ℕ) × (o ≡ Some n)
     some_at None e = absurd (cc)
     some_at (Some n) e = (n, refl)
+
     seat_at : (o : Option Seat) (xid : ℕ) → option_and_then (λ (seat : Seat). xid_of seat.state) o ≡ Some xid → (seat : Seat) × (o ≡ Some seat) × (xid_of seat.state ≡ Some xid)
     seat_at None xid e = absurd (cc)
     seat_at (Some seat) xid e = (seat, refl, e)
+
     runs : (xid : ℕ) → is_running c.xacts xid ≡ true → version_by (is_own (Some xid)) p c.versions ≡ None
     runs xid running =
         let at = some_at (session_at c.xacts xid) running in

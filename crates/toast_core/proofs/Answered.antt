@@ -31,6 +31,7 @@ use Rattle.command_set.specs.declared.Command.TheVariants as commands
 use Rattle.command_set.specs.declared.Reply.{Reply}
 use Rattle.command_set.specs.declared.Reply.TheVariants as replies
 use Rattle.toast_core.specs.Sound.{AreBuilt}
+use Rattle.toast_core.specs.Looks.{get_reply, insert_reply, other_than}
 use Rattle.toast_core.proofs.Seats.{read_there}
 
 abbrev pub answered : Reply → Plain → Answered
@@ -169,11 +170,6 @@ used_open m s table t is none =
 pub before_use : (m : Plain) (s table : ℕ) (t : Transaction) (rest : List (Option Reply)) (g : Reply) → session_of m s ≡ sessions.Open t → m.upkeep ≡ [] → first_of (outside m s ∷ failed m s ∷ locked (rewriter_of m s table) ∷ rest) g ≡ first_of rest g
 before_use m s table t rest g is none = passed _ _ _ (outside_is m s _ is) ∙ passed _ _ _ (failed_is m s _ is) ∙ passed _ _ _ (ap locked (no_rewriter m s table none))
 
--- what a get answers in an open transaction
-abbrev pub get_reply : ℤ → Option Row → Reply
-get_reply key None = replies.Absent
-get_reply key (Some row) = replies.Row key row
-
 pub get_open : (schemas : List (List Storage)) (m : Plain) (s table : ℕ) (key : ℤ) (t : Transaction) (found : Option Row) → slice_get m.sessions (s - 1) ≡ Some (sessions.Open t) → m.upkeep ≡ []
     → map.get (view_of (used_state m s t table) (with_use m t table)) (place table key) ≡ found
     → answer schemas m s (commands.Get table key) ≡ answered (get_reply key found) (used_state m s t table)
@@ -181,12 +177,16 @@ get_open schemas m s table key t found at none view = by found view
   where
     in_use : Plain
     in_use = used_state m s t table
+
     used : session_of in_use s ≡ sessions.Open (with_use m t table)
     used = session_at_place in_use s _ (sessions_set m s (sessions.Open t) (sessions.Open (with_use m t table)) at).own
+
     rows : Rows
     rows = view_of in_use (with_use m t table)
+
     reply : reply_of schemas in_use s (commands.Get table key) ≡ first_of (absent rows (place table key) ∷ []) (replies.Row key (row_at rows (place table key)))
     reply = reply_by schemas in_use s (commands.Get table key) _ used ∙ before_use in_use s table (with_use m t table) _ _ used none
+
     by : (o : Option Row) → map.get rows (place table key) ≡ o → answer schemas m s (commands.Get table key) ≡ answered (get_reply key o) in_use
     by None e = answer_is schemas m in_use s (commands.Get table key) replies.Absent (used_open m s table t (session_at_place m s _ at) none) (reply ∙ refused_first _ _ _ _ (ap (λ (o : Option Row). answers_if (is_none o) replies.Absent) e))
     by (Some row) e = answer_is schemas m in_use s (commands.Get table key) (replies.Row key row) (used_open m s table t (session_at_place m s _ at) none)
@@ -211,11 +211,6 @@ never_too_big [] i (Some bytes ∷ []) built one = refl
 never_too_big [] i (value ∷ next ∷ rest) built one = absurd (omega (arith, one))
 never_too_big (schema ∷ schemas) zero row built one = subst (λ (sch : List Storage). nat_lt largest_tuple (all_out_size sch row) ≡ false) (sym built.0) (one_column row one)
 never_too_big (schema ∷ schemas) (suc i) row built one = never_too_big schemas i row built.1 one
-
--- what the other session is that has a place, by who holds it
-abbrev pub other_than : ℕ → Option ℕ → Option ℕ
-other_than s None = None
-other_than s (Some n) = cond (n == s) None (Some n)
 
 abbrev is_at : Option ℕ → ℕ → Bool
 is_at held n = option_map_or (λ holder. holder == n) held false
@@ -260,6 +255,7 @@ found_other s from test (x ∷ xs) (Some n) tells there =
     at same other =
         let is : n ≡ from = grind (arith, nat_tests, same) in
         rw (is, other) refl
+
     by : (same own passes : Bool) → (n == from) ≡ same → (from == s) ≡ own → passes ≡ same
         → (from < n → option_map (λ (n, session). n) (find (λ (n, session). not (n == s) && test session) (enumerate_from (from + 1) xs)) ≡ other_than s (Some n))
         → (n ≡ from → option_map (λ (n, session). n) (find (λ (n, session). not (n == s) && test session) (enumerate_from (from + 1) xs)) ≡ None)
@@ -279,12 +275,6 @@ found_other s from test (x ∷ xs) (Some n) tells there =
         let differ : n ≢ from = grind (arith, nat_tests, same) in
         rest (omega (arith, differ, low))
 
--- what an insert answers in an open transaction, by who has changed the key and by what is there
-abbrev pub insert_reply : Option ℕ → Option Row → Reply
-insert_reply (Some n) found = replies.Busy n
-insert_reply None (Some row) = replies.Taken
-insert_reply None None = replies.Okay
-
 -- the state after it
 abbrev pub insert_after : Plain → ℕ → Transaction → ℕ → ℤ → Row → Reply → Plain
 insert_after m s t table key row replies.Okay = with_session (used_state m s t table) s (sessions.Open (with_change (with_use m t table) (Insert table key row)))
@@ -298,20 +288,28 @@ insert_open schemas m s table key row t other found at none built one changer no
   where
     in_use : Plain
     in_use = used_state m s t table
+
     its : Transaction
     its = with_use m t table
+
     used : session_of in_use s ≡ sessions.Open its
     used = session_at_place in_use s _ (sessions_set m s (sessions.Open t) (sessions.Open its) at).own
+
     p : Place
     p = place table key
+
     in_using : once_used m s (session_of m s) (Some table) ≡ in_use
     in_using = used_open m s table t (session_at_place m s _ at) none
+
     reply : reply_of schemas in_use s (commands.Insert table key row) ≡ first_of (busy in_use s p ∷ taken in_use its p ∷ too_big (schema_of schemas table) row ∷ []) replies.Okay
     reply = reply_by schemas in_use s (commands.Insert table key row) _ used ∙ before_use in_use s table its _ _ used none
+
     fits : too_big (schema_of schemas table) row ≡ None
     fits = ap (λ (b : Bool). answers_if b (replies.TooBig (all_out_size (schema_of schemas table) row))) (never_too_big schemas (table - 1) row built one)
+
     failed_after : with_failure in_use s ≡ with_session in_use s sessions.Failed
     failed_after = ap (λ (x : Session). with_session in_use s (failed_session x)) used
+
     by : (o : Option ℕ) (f : Option Row) → changer_of in_use s p ≡ o → map.get (now_of in_use its) p ≡ f → map.get (view_of in_use its) p ≡ f
         → answer schemas m s (commands.Insert table key row) ≡ answered (insert_reply o f) (insert_after m s t table key row (insert_reply o f))
     by (Some n) f c w v = answer_is schemas m in_use s (commands.Insert table key row) (replies.Busy n) in_using (reply ∙ refused_first _ _ _ _ (ap (option_map replies.Busy) c)) ∙ ap (answered (replies.Busy n)) failed_after

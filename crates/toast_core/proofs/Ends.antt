@@ -124,6 +124,7 @@ others_by xacts new ended s xid t at own differ runs = by (xid == ended) refl at
         let same : session_at xacts ended ≡ Some t = ap (session_at xacts) (sym is) ∙ runs in
         let t_is : t ≡ s = cc in
         differ t_is
+
     by : (b : Bool) → (xid == ended) ≡ b → session_at new xid ≡ cond b None (session_at xacts xid) → session_at new xid ≡ Some t
     by true e at = absurd (clash (grind (arith, nat_tests, e)))
     by false e at = at ∙ runs
@@ -168,6 +169,7 @@ seat_ended seats xacts snaps claims versions pieces s state level none claims_ar
   where
     clash : (xid : ℕ) → xid_of state ≡ Some xid → ⊥
     clash xid e = absurd (cc)
+
     own : (held b : Bool) → (s == s) ≡ b → cond b false held ≡ false
     own held true e = refl
     own held false e = absurd (grind (arith, nat_tests, e))
@@ -204,6 +206,7 @@ sound_ended c s state xacts snaps there level none ends registry reads sound = r
     other : (i : ℕ) → suc i ≢ s → (held b : Bool) → (suc i == s) ≡ b → cond b false held ≡ held
     other i apart held true e = absurd (apart (grind (arith, nat_tests, e)))
     other i apart held false e = refl
+
     here : (t xid : ℕ) → t ≡ s → option_and_then (λ (seat : Seat). xid_of seat.state) (slice_get c.seats (t - 1)) ≡ Some xid → xid_of (seat_of c s).state ≡ Some xid
     here t xid is has = sym (ap (option_and_then (λ (seat : Seat). xid_of seat.state)) (ap (λ (n : ℕ). slice_get c.seats (n - 1)) is ∙ seat_there c.seats s there)) ∙ has
 

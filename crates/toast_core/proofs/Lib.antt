@@ -11,4 +11,6 @@ pub mod Alone
 pub mod Answered
 pub mod Standing
 pub mod Moves
-pub mod Steps
+pub mod Stepping
+pub mod Gathered
+pub mod Lent

@@ -42,10 +42,11 @@ use Rattle.toast_core.specs.State.{CoreState, IsSession, nobody, joined, value_o
 use Rattle.toast_core.specs.Events.{Event, Line, ReadBegun, PieceRead, LastRead, WriteBegun, PiecePut, VersionPut, after_read_begun, Over, Committed, GivenUp, seated, after, after_over, after_commit_of, after_giving_up, after_failing, once_committed, once_aborted, once_released, given_up, failed_state, left, left_of}
 use Rattle.toast_core.specs.Sound.{IsSound, SeatIsSound, is_open, reads_committed}
 use Rattle.toast_core.specs.Stands.{is_past_moment, Stands, Standing, standing_of, standing_with, standing_in, committed_row, Says, Runs, MovedBy, EventBy, Moved, IsEvent, Stepped, Falls}
+use Rattle.toast_core.specs.Looks.{get_said}
 use Rattle.toast_core.proofs.Tests.{runs_for}
 use Rattle.toast_core.proofs.Versions.{found_same, rows_in_sight}
 use Rattle.toast_core.proofs.Seats.{sound_of, seat_there, seat_written}
-use Rattle.toast_core.proofs.Answered.{answered, used_state, get_reply, get_open, insert_reply, insert_after, insert_open, other_than, found_other, Sessions, sessions_same, sessions_set, session_at_place, within, begin_outside, begin_inside, commit_outside, commit_failed, commit_open, rollback_outside, rollback_inside, get_outside, get_failed, insert_outside, insert_failed}
+use Rattle.toast_core.proofs.Answered.{answered, used_state, get_open, Sessions, sessions_same, sessions_set, session_at_place, within, begin_outside, begin_inside, commit_outside, commit_failed, commit_open, rollback_outside, rollback_inside, get_outside, get_failed, insert_outside, insert_failed}
 use Rattle.toast_core.proofs.Reading.{begun_read}
 use Rattle.toast_core.proofs.Standing.{IsLike, its_session, outside_by, failed_by, IsOpen, open_by, stands_by, stands_moment, stands_said}
 
@@ -96,8 +97,8 @@ pub moment_over : (c : CoreState) (xacts : Xacts) (snaps : Snaps) (claims : List
 moment_over c xacts snaps claims s state command reply line there is after_is each =
     stepped_moment c s command (over_with c xacts snaps claims s state) (advances.Done reply) is (record { line = line; is = after_is }) (less_left c xacts snaps claims s state command there is)
     (λ m told counted stands.
-        let h = each m told counted stands in
-        record { reply = reply; next = h.next; is = h.is; stands = h.stands; says = (refl, job_over c xacts snaps claims s state there) })
+    let h = each m told counted stands in
+    record { reply = reply; next = h.next; is = h.is; stands = h.stands; says = (refl, job_over c xacts snaps claims s state there) })
 
 -- the changes of a session with a command before its moment
 changes_before : (c : CoreState) (s : ℕ) (command : Command) → (seat_of c s).job ≡ jobs.Submitted command → changes_in c.pieces c.versions (seat_of c s) ≡ own_changes c.pieces (xid_of (seat_of c s).state) c.versions ++ []
@@ -109,13 +110,13 @@ refuse : (c : CoreState) (s : ℕ) (command : Command) (reply : Reply) → IsSes
 refuse c s command reply there is each =
     moment_over c c.xacts c.snaps c.claims s (seat_of c s).state command reply (Over (seat_of c s).state) there is refl
     (λ m told counted stands.
-        let its = its_session c s m told there stands in
-        record {
-          next = m;
-          is = each m its;
-          stands = stands_said c c.xacts c.snaps c.claims s (seat_of c s).state jobs.Idle m m told reply its.session there counted stands refl refl (λ p. refl) (sessions_same m s its.session its.at)
-              (its.like ∙ ap (standing_with (seat_of c s).state) (changes_before c s command is)) (λ said pends. absurd (cc));
-        })
+    let its = its_session c s m told there stands in
+    record {
+      next = m;
+      is = each m its;
+      stands = stands_said c c.xacts c.snaps c.claims s (seat_of c s).state jobs.Idle m m told reply its.session there counted stands refl refl (λ p. refl) (sessions_same m s its.session its.at)
+          (its.like ∙ ap (standing_with (seat_of c s).state) (changes_before c s command is)) (λ said pends. absurd (cc));
+    })
 
 its_of : (m : Plain) (s : ℕ) (seat : Seat) (changes : List Change) → (its : IsLike m s seat changes) → session_of m s ≡ its.session
 its_of m s seat changes its = session_at_place m s its.session its.at
@@ -161,13 +162,13 @@ pub begin_done : (c : CoreState) (s : ℕ) (level : Level) → IsSession c.seats
 begin_done c s level there is state =
     moment_over c c.xacts c.snaps c.claims s (states.Open level None) (commands.Begin level) replies.Okay (Over (states.Open level None)) there is refl
     (λ m told counted stands.
-        let its = its_session c s m told there stands in
-        record {
-          next = with_transaction m s (new_transaction level);
-          is = begin_outside c.schemas m s level (outside_of m s _ _ state its);
-          stands = stands_said c c.xacts c.snaps c.claims s (states.Open level None) jobs.Idle m (with_transaction m s (new_transaction level)) told replies.Okay (sessions.Open (new_transaction level)) there counted stands refl refl (λ p. refl)
-              (sessions_set m s its.session (sessions.Open (new_transaction level)) its.at) refl (λ said pends. absurd (cc));
-        })
+    let its = its_session c s m told there stands in
+    record {
+      next = with_transaction m s (new_transaction level);
+      is = begin_outside c.schemas m s level (outside_of m s _ _ state its);
+      stands = stands_said c c.xacts c.snaps c.claims s (states.Open level None) jobs.Idle m (with_transaction m s (new_transaction level)) told replies.Okay (sessions.Open (new_transaction level)) there counted stands refl refl (λ p. refl)
+          (sessions_set m s its.session (sessions.Open (new_transaction level)) its.at) refl (λ said pends. absurd (cc));
+    })
 
 -- a session leaves its failed transaction
 leave : (c : CoreState) (s : ℕ) (command : Command) (reply : Reply) → IsSession c.seats s → (seat_of c s).job ≡ jobs.Submitted command
@@ -175,13 +176,13 @@ leave : (c : CoreState) (s : ℕ) (command : Command) (reply : Reply) → IsSess
 leave c s command reply there is each =
     moment_over c c.xacts c.snaps c.claims s states.Outside command reply (Over states.Outside) there is refl
     (λ m told counted stands.
-        let its = its_session c s m told there stands in
-        record {
-          next = with_session m s sessions.Outside;
-          is = each m its;
-          stands = stands_said c c.xacts c.snaps c.claims s states.Outside jobs.Idle m (with_session m s sessions.Outside) told reply sessions.Outside there counted stands refl refl (λ p. refl)
-              (sessions_set m s its.session sessions.Outside its.at) refl (λ said pends. absurd (cc));
-        })
+    let its = its_session c s m told there stands in
+    record {
+      next = with_session m s sessions.Outside;
+      is = each m its;
+      stands = stands_said c c.xacts c.snaps c.claims s states.Outside jobs.Idle m (with_session m s sessions.Outside) told reply sessions.Outside there counted stands refl refl (λ p. refl)
+          (sessions_set m s its.session sessions.Outside its.at) refl (λ said pends. absurd (cc));
+    })
 
 pub commit_left : (c : CoreState) (s : ℕ) → IsSession c.seats s → (seat_of c s).job ≡ jobs.Submitted commands.Commit → (seat_of c s).state ≡ states.Failed → Stepped c s (after_over c s states.Outside) (advances.Done replies.RolledBack)
 commit_left c s there is state = leave c s commands.Commit replies.RolledBack there is (λ m its. commit_failed c.schemas m s (failed_of m s _ _ state its))
@@ -202,14 +203,14 @@ pub rollback_done : (c : CoreState) (s : ℕ) → IsSession c.seats s → (seat_
 rollback_done c s there is inside sound =
     moment_over c (once_aborted c.xacts (xid_of (seat_of c s).state)) (once_released c.snaps (seat_of c s).job) (given_up s c.claims) s states.Outside commands.Rollback replies.Okay (GivenUp states.Outside) there is refl
     (λ m told counted stands.
-        let its = its_session c s m told there stands in
-        let opened = open_by its.session _ _ inside (sound_of c s there sound).level its.like in
-        record {
-          next = with_session m s sessions.Outside;
-          is = rollback_inside c.schemas m s its.session (its_of m s _ _ its) (ap is_outside opened.is);
-          stands = stands_said c _ _ _ s states.Outside jobs.Idle m (with_session m s sessions.Outside) told replies.Okay sessions.Outside there counted stands refl refl (rows_abort c (xid_of (seat_of c s).state) (own_runs c s there sound) sound)
-              (sessions_set m s its.session sessions.Outside its.at) refl (λ said pends. absurd (cc));
-        })
+    let its = its_session c s m told there stands in
+    let opened = open_by its.session _ _ inside (sound_of c s there sound).level its.like in
+    record {
+      next = with_session m s sessions.Outside;
+      is = rollback_inside c.schemas m s its.session (its_of m s _ _ its) (ap is_outside opened.is);
+      stands = stands_said c _ _ _ s states.Outside jobs.Idle m (with_session m s sessions.Outside) told replies.Okay sessions.Outside there counted stands refl refl (rows_abort c (xid_of (seat_of c s).state) (own_runs c s there sound) sound)
+          (sessions_set m s its.session sessions.Outside its.at) refl (λ said pends. absurd (cc));
+    })
 
 -- another session stands as it did once it is told of a commit
 told_like : (changes : List Change) (o : Option Session) → option_map standing_of (option_map (told_by changes) o) ≡ option_map standing_of o
@@ -259,18 +260,18 @@ pub commit_done : (c : CoreState) (s : ℕ) → IsSession c.seats s → (seat_of
 commit_done c s there is inside sound =
     moment_over c (once_committed c.xacts (xid_of (seat_of c s).state)) c.snaps (given_up s c.claims) s states.Outside commands.Commit replies.Okay Committed there is refl
     (λ m told counted stands.
-        let its = its_session c s m told there stands in
-        let opened = open_by its.session _ _ inside (sound_of c s there sound).level its.like in
-        let at : session_of m s ≡ sessions.Open opened.t = its_of m s _ _ its ∙ opened.is in
-        record {
-          next = committed m s;
-          is = commit_open c.schemas m s opened.t at;
-          stands = stands_moment c _ _ _ s states.Outside jobs.Idle m (committed m s) told replies.Okay sessions.Outside there counted stands
-              (λ p. rows_changed c s commands.Commit m told (transaction_of (session_of m s)).changes there is (ap (λ (x : Session). (transaction_of x).changes) at ∙ opened.changes_are) sound stands p
-              ∙ rows_commit c (xid_of (seat_of c s).state) (own_runs c s there sound) sound p)
-              (λ i differ. ap (option_map standing_of) (get_set_other _ (s - 1) i sessions.Outside differ ∙ get_mapped (told_by (transaction_of (session_of m s)).changes) m.sessions i) ∙ told_like (transaction_of (session_of m s)).changes (slice_get m.sessions i))
-              (get_set_same _ (s - 1) sessions.Outside (mapped_within (told_by (transaction_of (session_of m s)).changes) m.sessions its.session (s - 1) its.at)) refl stands.upkeep (λ said pends. absurd (cc));
-        })
+    let its = its_session c s m told there stands in
+    let opened = open_by its.session _ _ inside (sound_of c s there sound).level its.like in
+    let at : session_of m s ≡ sessions.Open opened.t = its_of m s _ _ its ∙ opened.is in
+    record {
+      next = committed m s;
+      is = commit_open c.schemas m s opened.t at;
+      stands = stands_moment c _ _ _ s states.Outside jobs.Idle m (committed m s) told replies.Okay sessions.Outside there counted stands
+          (λ p. rows_changed c s commands.Commit m told (transaction_of (session_of m s)).changes there is (ap (λ (x : Session). (transaction_of x).changes) at ∙ opened.changes_are) sound stands p
+          ∙ rows_commit c (xid_of (seat_of c s).state) (own_runs c s there sound) sound p)
+          (λ i differ. ap (option_map standing_of) (get_set_other _ (s - 1) i sessions.Outside differ ∙ get_mapped (told_by (transaction_of (session_of m s)).changes) m.sessions i) ∙ told_like (transaction_of (session_of m s)).changes (slice_get m.sessions i))
+          (get_set_same _ (s - 1) sessions.Outside (mapped_within (told_by (transaction_of (session_of m s)).changes) m.sessions its.session (s - 1) its.at)) refl stands.upkeep (λ said pends. absurd (cc));
+    })
 
 -- what a use of a table makes of an open transaction
 with_use_is : (m : Plain) (t : Transaction) (table : ℕ) → t.level ≡ Rc → with_use m t table ≡ record t { used = t.used ++ table ∷ [] }
@@ -300,23 +301,19 @@ is_used c s table command m told there is inside sound stands =
       now = λ p. ap (λ (u : Transaction). map.get (fold_changes u.changes m.latest) p) use_is ∙ rows p;
     }
 
--- the reply of a get, by the version that is in sight
-abbrev pub get_said : CoreState → ℤ → Option Version → Reply
-get_said c key found = get_reply key (option_map (row_of c.pieces) found)
-
 -- a get that is over at its moment: there is no row in sight, or its value is inline
 pub get_over : (c : CoreState) (s table : ℕ) (key : ℤ) (found : Option Version) (reply : Reply) → IsSession c.seats s → (seat_of c s).job ≡ jobs.Submitted (commands.Get table key) → is_open (seat_of c s).state ≡ true → IsSound c
-    → version_by (in_sight c.xacts (xid_of (seat_of c s).state)) (place table key) c.versions ≡ found → reply ≡ get_said c key found → Stepped c s (after_over c s (seat_of c s).state) (advances.Done reply)
+    → version_by (in_sight c.xacts (xid_of (seat_of c s).state)) (place table key) c.versions ≡ found → reply ≡ get_said c.pieces key found → Stepped c s (after_over c s (seat_of c s).state) (advances.Done reply)
 get_over c s table key found reply there is inside sound at reply_is =
     moment_over c c.xacts c.snaps c.claims s (seat_of c s).state (commands.Get table key) reply (Over (seat_of c s).state) there is refl
     (λ m told counted stands.
-        let used = is_used c s table (commands.Get table key) m told there is inside sound stands in
-        record {
-          next = used_state m s used.t table;
-          is = get_open c.schemas m s table key used.t (option_map (row_of c.pieces) found) used.at stands.upkeep (used.view (place table key) ∙ ap (option_map (row_of c.pieces)) at) ∙ ap (λ (r : Reply). answered r (used_state m s used.t table)) (sym reply_is);
-          stands = stands_said c c.xacts c.snaps c.claims s (seat_of c s).state jobs.Idle m (used_state m s used.t table) told reply (sessions.Open (with_use m used.t table)) there counted stands refl refl (λ p. refl)
-              (sessions_set m s (sessions.Open used.t) (sessions.Open (with_use m used.t table)) used.at) used.like (λ said pends. absurd (cc));
-        })
+    let used = is_used c s table (commands.Get table key) m told there is inside sound stands in
+    record {
+      next = used_state m s used.t table;
+      is = get_open c.schemas m s table key used.t (option_map (row_of c.pieces) found) used.at stands.upkeep (used.view (place table key) ∙ ap (option_map (row_of c.pieces)) at) ∙ ap (λ (r : Reply). answered r (used_state m s used.t table)) (sym reply_is);
+      stands = stands_said c c.xacts c.snaps c.claims s (seat_of c s).state jobs.Idle m (used_state m s used.t table) told reply (sessions.Open (with_use m used.t table)) there counted stands refl refl (λ p. refl)
+          (sessions_set m s (sessions.Open used.t) (sessions.Open (with_use m used.t table)) used.at) used.like (λ said pends. absurd (cc));
+    })
 
 -- the seat after a moment that goes on
 job_begun : (c : CoreState) (s : ℕ) (state : State) (job : Job) → IsSession c.seats s → slice_index_or (seated c.seats s state job) (s - 1) nobody ≡ record { state = state; job = job }
@@ -328,23 +325,25 @@ pub get_begun : (c : CoreState) (s table : ℕ) (key : ℤ) (version : Version) 
 get_begun c s table key version id size there is inside sound at cut =
     stepped_moment c s (commands.Get table key) (after_read_begun c s key id size) advances.More is (record { line = ReadBegun key id size; is = refl }) less
     (λ m told counted stands.
-        let used = is_used c s table (commands.Get table key) m told there is inside sound stands in
-        record {
-          reply = replies.Row key (row_of c.pieces version);
-          next = used_state m s used.t table;
-          is = get_open c.schemas m s table key used.t (Some (row_of c.pieces version)) used.at stands.upkeep (used.view (place table key) ∙ ap (option_map (row_of c.pieces)) at);
-          stands = stands_said c c.xacts (after_take c.snaps c.xacts) c.claims s (seat_of c s).state (jobs.Reading job) m (used_state m s used.t table) told (replies.Row key (row_of c.pieces version)) (sessions.Open (with_use m used.t table)) there counted stands refl refl (λ p. refl)
-              (sessions_set m s (sessions.Open used.t) (sessions.Open (with_use m used.t table)) used.at) used.like (λ said pends. said_is said pends);
-          says = (refl, refl, ap (λ (seat : Seat). is_past_moment seat.job) (job_begun c s (seat_of c s).state (jobs.Reading job) there));
-        })
+    let used = is_used c s table (commands.Get table key) m told there is inside sound stands in
+    record {
+      reply = replies.Row key (row_of c.pieces version);
+      next = used_state m s used.t table;
+      is = get_open c.schemas m s table key used.t (Some (row_of c.pieces version)) used.at stands.upkeep (used.view (place table key) ∙ ap (option_map (row_of c.pieces)) at);
+      stands = stands_said c c.xacts (after_take c.snaps c.xacts) c.claims s (seat_of c s).state (jobs.Reading job) m (used_state m s used.t table) told (replies.Row key (row_of c.pieces version)) (sessions.Open (with_use m used.t table)) there counted stands refl refl (λ p. refl)
+          (sessions_set m s (sessions.Open used.t) (sessions.Open (with_use m used.t table)) used.at) used.like (λ said pends. said_is said pends);
+      says = (refl, refl, ap (λ (seat : Seat). is_past_moment seat.job) (job_begun c s (seat_of c s).state (jobs.Reading job) there));
+    })
   where
     job : ReadJob
     job = begun_read c.snaps key id size
+
     less : left (after_read_begun c s key id size) s < left c s
     less =
         let new : left (after_read_begun c s key id size) s ≡ length c.pieces - 0 = ap (λ (seat : Seat). left_of c.pieces seat.job) (job_begun c s (seat_of c s).state (jobs.Reading job) there) in
         let old : left c s ≡ suc (length c.pieces) = ap (left_of c.pieces) is in
         omega (arith, new, old)
+
     said_is : (said : Reply) → pending_of c.pieces (jobs.Reading job) ≡ Some said → said ≡ replies.Row key (row_of c.pieces version)
     said_is said pends =
         let zero_is : size - 0 ≡ size = omega arith in

@@ -63,6 +63,7 @@ id_is_low xacts versions pieces state job writing = by job.value_id refl
   where
     count : length (pieces ++ new_piece pieces job ∷ []) ≡ length pieces + 1
     count = length-append pieces (new_piece pieces job ∷ [])
+
     by : (o : Option ℕ) → job.value_id ≡ o → unwrap_or o (first_id + length pieces) < first_id + length (pieces ++ new_piece pieces job ∷ [])
     by None e = omega (arith, count)
     by (Some id) e =
@@ -187,10 +188,12 @@ sound_piece_put c s job there is sound =
     own_piece : (own : Option ℕ) → own_changes (c.pieces ++ new_piece c.pieces job ∷ []) own c.versions ≡ own_changes c.pieces own c.versions
     own_piece None = refl
     own_piece (Some xid) = changes_piece c.xacts c.pieces (new_piece c.pieces job) xid c.versions sound.versions
+
     place_apart : (i : ℕ) → suc i ≢ s → i ≢ s - 1
     place_apart i apart e =
         let low = there.from_one in
         apart (omega (arith, e, low))
+
     some_is : (a b : ℕ) → Some a ≡ Some b → a ≡ b
     some_is a b e = cc
 
@@ -201,13 +204,16 @@ kept_whole xacts versions pieces state job writing finished bytes is cut = by jo
   where
     its : bytes_of job.value ≡ bytes
     its = ap bytes_of is
+
     full : job.written ≡ length bytes
     full =
         let within : job.written ≤ length bytes = rw its at writing.within in
         let over : (is_cut bytes && nat_lt job.written (length bytes)) ≡ false = rw its at finished in
         grind (arith, nat_tests, within, over, cut)
+
     some : 0 < length bytes
     some = grind (arith, nat_tests, cut)
+
     by : (o : Option ℕ) → job.value_id ≡ o → joined (unwrap_or o 0) pieces ≡ bytes
     by None e =
         let none = writing.undrawn e in
@@ -222,6 +228,7 @@ version_keeps xacts versions pieces state job writing finished (Some bytes) is =
   where
     some : (xs : List ℕ) → is_cut xs ≡ true → 0 < length xs
     some xs cut = grind (arith, nat_tests, cut)
+
     by : (b : Bool) → is_cut bytes ≡ b → (value_of pieces (cond b (values.Cut (unwrap_or job.value_id 0) (length bytes)) (values.Inline bytes)) ≡ Some bytes) × IsKept pieces (cond b (values.Cut (unwrap_or job.value_id 0) (length bytes)) (values.Inline bytes))
     by false e = (refl, tt)
     by true e =
@@ -315,6 +322,7 @@ sound_version_put c s job xid there is own finished sound =
   where
     another : (i : ℕ) → session_at c.xacts xid ≡ Some (suc i) → session_at c.xacts xid ≡ Some s → suc i ≡ s
     another i a b = cc
+
     same_changes : value_of c.pieces (stored job job.value) ≡ job.value → changes_in c.pieces c.versions (seat_of c s) ≡ changes_in c.pieces (c.versions ++ version_for job xid ∷ []) (record { state = (seat_of c s).state; job = jobs.Idle })
     same_changes keeps =
         ap (λ (more : List Change). own_changes c.pieces (xid_of (seat_of c s).state) c.versions ++ more) (ap coming is)
@@ -322,6 +330,7 @@ sound_version_put c s job xid there is own finished sound =
         ∙ sym (changes_put c.pieces c.versions xid job keeps)
         ∙ sym (append-nil _)
         ∙ ap (λ (own : Option ℕ). own_changes c.pieces own (c.versions ++ version_for job xid ∷ []) ++ []) (sym own)
+
     holds : (p : Place) (t : ℕ) → is_holder c.claims p t ≡ true → holder_of c.claims p ≡ Some t
     holds p t e = by (holder_of c.claims p) refl e
       where
@@ -330,6 +339,7 @@ sound_version_put c s job xid there is own finished sound =
         by (Some h) at e =
             let is : h ≡ t = grind (arith, nat_tests, e) in
             ap Some is
+
     places : (i : ℕ) → suc i ≢ s → (p : Place) → is_holder c.claims p (suc i) ≡ true → is_holder c.claims job.place s ≡ true → same_place p job.place ≡ false
     places i apart p theirs ours = by (same_place p job.place) refl
       where

@@ -49,6 +49,7 @@ finds_next pieces snaps state job reading = by (nat_lt at (length (drop job.from
   where
     at : ℕ
     at = position_or_len (λ piece. piece.value_id == job.value_id) (drop job.from pieces)
+
     by : (b : Bool) → nat_lt at (length (drop job.from pieces)) ≡ b → IsNext pieces job
     by true e =
         let within : at < length (drop job.from pieces) = grind (arith, nat_tests, e) in

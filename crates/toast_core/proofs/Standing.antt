@@ -119,6 +119,7 @@ stands_by c xacts snaps claims versions pieces s state job m after told later se
     each : (i : ℕ) → i ≢ s - 1 → (o : Option Seat) → slice_get c.seats i ≡ o → option_map (standing_in c.pieces c.versions) o ≡ option_map (standing_in pieces versions) o
     each i differ None e = refl
     each i differ (Some seat) e = ap Some (sym (same i seat differ e))
+
     by : (i : ℕ) (b : Bool) → (i == (s - 1)) ≡ b → option_map standing_of (slice_get after.sessions i) ≡ option_map (standing_in pieces versions) (slice_get (seated c.seats s state job) i)
     by i true e =
         let is : i ≡ s - 1 = grind (arith, nat_tests, e) in
@@ -126,6 +127,7 @@ stands_by c xacts snaps claims versions pieces s state job m after told later se
     by i false e =
         let differ : i ≢ s - 1 = grind (arith, nat_tests, e) in
         others i differ ∙ stands.sessions i ∙ each i differ (slice_get c.seats i) refl ∙ sym (ap (option_map (standing_in pieces versions)) (get_set_other c.seats (s - 1) i (record { state = state; job = job }) differ))
+
     here : (i : ℕ) (seat : Seat) (said : Reply) → i ≡ s - 1 → seat ≡ (record { state = state; job = job }) → pending_of pieces seat.job ≡ Some said → slice_get later i ≡ Some (Some said)
     here i seat said at is pends = rw at (says said (sym (ap (λ (x : Seat). pending_of pieces x.job) is) ∙ pends))
 
@@ -239,6 +241,7 @@ stands_version_put c s job xid m told there is own finished sound stands =
     nothing_more true (Some v) = refl
     nothing_more false None = refl
     nothing_more false (Some v) = refl
+
     another : (i : ℕ) → i ≢ s - 1 → session_at c.xacts xid ≡ Some (suc i) → session_at c.xacts xid ≡ Some s → ⊥
     another i differ a b =
         let same : suc i ≡ s = cc in

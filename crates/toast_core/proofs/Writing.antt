@@ -78,11 +78,14 @@ write_begins xacts None s runs = record {
     here : (b : Bool) → (next_xid xacts == next_xid xacts) ≡ b → cond b (Some s) (session_at xacts (next_xid xacts)) ≡ Some s
     here true e = refl
     here false e = absurd (grind (arith, nat_tests, e))
+
     past : (x t : ℕ) → session_at xacts x ≡ Some t → x ≡ next_xid xacts → ⊥
     past x t e is = not_given xacts (subst (IsAssigned xacts) is (assigned_from_running xacts x (runs_for xacts x t e)))
+
     other : (x t : ℕ) → session_at xacts x ≡ Some t → (b : Bool) → (x == next_xid xacts) ≡ b → cond b (Some s) (session_at xacts x) ≡ Some t
     other x t e true same = absurd (past x t e (grind (arith, nat_tests, same)))
     other x t e false same = e
+
     either : (x t : ℕ) (b : Bool) → (x == next_xid xacts) ≡ b → cond b (Some s) (session_at xacts x) ≡ Some t → ((x ≡ next_xid xacts) × (t ≡ s)) ⊎ (session_at xacts x ≡ Some t)
     either x t true same e = inl (grind (arith, nat_tests, same), cc)
     either x t false same e = inr e
@@ -157,6 +160,7 @@ seat_begun c s p value xacts xid there none inside begun free alone sound =
   where
     some_is : (a b : ℕ) → Some a ≡ Some b → a ≡ b
     some_is a b e = cc
+
     itself : (b : Bool) → (s == s) ≡ b → b ≡ true
     itself true e = refl
     itself false e = absurd (grind (arith, nat_tests, e))
@@ -189,19 +193,23 @@ sound_write_begun c s p value xacts xid there none inside begun free alone sound
     another : (i : ℕ) → suc i ≢ s → (b : Bool) → (s == suc i) ≡ b → b ≡ false
     another i apart false e = refl
     another i apart true e = absurd (apart (grind (arith, nat_tests, e)))
+
     and_or : (a b : Bool) → (a || (b && false)) ≡ a
     and_or true true = refl
     and_or true false = refl
     and_or false true = refl
     and_or false false = refl
+
     has : xid_of (with_xid (seat_of c s).state xid) ≡ Some xid
     has = xid_with (seat_of c s).state xid inside
+
     here : (x t : ℕ) → x ≡ xid → t ≡ s → Owns (seated c.seats s (with_xid (seat_of c s).state xid) (jobs.Writing (begun_write p value))) t x
     here x t x_is t_is = rw (x_is, t_is) (record {
       from_one = there.from_one;
       has = ap (option_and_then (λ (seat : Seat). xid_of seat.state)) (seat_there _ s (session_written c.seats s s (with_xid (seat_of c s).state xid) (jobs.Writing (begun_write p value)) there))
           ∙ ap (λ (seat : Seat). xid_of seat.state) (seat_written c.seats s (with_xid (seat_of c s).state xid) (jobs.Writing (begun_write p value)) there) ∙ has;
     })
+
     again : (x t : ℕ) → t ≡ s → Owns c.seats t x → xid_of (with_xid (seat_of c s).state xid) ≡ Some x
     again x t is owns =
         let own : xid_of (seat_of c s).state ≡ Some x = sym (ap (option_and_then (λ (seat : Seat). xid_of seat.state)) (ap (λ (n : ℕ). slice_get c.seats (n - 1)) is ∙ seat_there c.seats s there)) ∙ owns.has in

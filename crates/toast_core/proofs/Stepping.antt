@@ -42,6 +42,7 @@ use Rattle.toast_core.specs.State.{CoreState, IsSession, nobody, seat_of, versio
 use Rattle.toast_core.specs.Events.{Event, Line, after_submit, GivenUp, PieceRead, LastRead, WriteBegun, PiecePut, VersionPut, seated, after, after_failing, after_giving_up, after_write_begun, after_piece_read, after_last_read, after_piece_put, after_version_put, once_assigned, once_aborted, once_released, given_up, failed_state, with_xid, left, left_of, left_after, gathered, next_piece, bytes_of, is_cut, is_putting, next_bytes, put_on, pieces_in, pieces_left, only_value, read_in, write_in, version_for}
 use Rattle.toast_core.specs.Sound.{IsSound, SeatIsSound, IsReading, IsWriting, is_open, reads_committed, holder_of, is_holder}
 use Rattle.toast_core.specs.Stands.{Stands, Standing, Outside, Failed, Open, standing_of, standing_with, standing_in, committed_row, is_past_moment, Ends, Goes, MovedBy, EventBy, Moved, IsEvent, Stepped, Falls, StandsOn, OthersStay}
+use Rattle.toast_core.specs.Looks.{insert_reply, other_than}
 use Rattle.toast_core.proofs.Versions.{found_same}
 use Rattle.toast_core.proofs.Claims.{holder_there}
 use Rattle.toast_core.proofs.Seats.{sound_of, seat_there, seat_written}
@@ -49,7 +50,7 @@ use Rattle.toast_core.proofs.Ends.{sound_giving_up}
 use Rattle.toast_core.proofs.Reading.{finds_next, reply_gathered}
 use Rattle.toast_core.proofs.Writing.{begun_write, begun_xid, changes_begun, IsBegun, write_begins}
 use Rattle.toast_core.proofs.Putting.{new_piece}
-use Rattle.toast_core.proofs.Answered.{answered, used_state, insert_reply, insert_after, insert_open, other_than, found_other, Sessions, sessions_set, sessions_then, session_at_place, within}
+use Rattle.toast_core.proofs.Answered.{answered, used_state, insert_after, insert_open, found_other, Sessions, sessions_set, sessions_then, session_at_place, within}
 use Rattle.toast_core.proofs.Standing.{IsLike, its_session, outside_by, failed_by, stands_said, stands_by, stands_on, stands_piece_read, stands_last_read, stands_piece_put, stands_version_put}
 use Rattle.toast_core.proofs.Moves.{stepped_moment, moment_over, over_with, IsUsed, is_used, rows_abort, own_runs}
 
@@ -76,11 +77,13 @@ quiet_seat c s seat p sound closed = by seat.state seat.job refl refl closed
     no_xid states.Outside e = refl
     no_xid states.Failed e = refl
     no_xid (states.Open level xid) e = absurd (cc)
+
     never : (job : WriteJob) → seat.job ≡ jobs.Writing job → ⊥
     never job e =
         let has = (sound.writing job e).inside in
         let none = no_xid seat.state closed in
         absurd (cc)
+
     by : (state : State) (job : Job) → seat.state ≡ state → seat.job ≡ job → is_open state ≡ false → is_named (keys_of (own_changes c.pieces (xid_of state) c.versions ++ coming job)) p ≡ false
     by states.Outside jobs.Idle a e closed = refl
     by states.Outside (jobs.Submitted command) a e closed = refl
@@ -110,15 +113,19 @@ changer_is c s table command p m told there is sound stands used = found_other s
   where
     after : Plain
     after = used_state m s used.t table
+
     those : Sessions m after s (sessions.Open (with_use m used.t table))
     those = sessions_set m s (sessions.Open used.t) (sessions.Open (with_use m used.t table)) used.at
+
     own_like : standing_of (sessions.Open (with_use m used.t table)) ≡ standing_in c.pieces c.versions (seat_of c s)
     own_like = used.like ∙ ap (λ (more : List Change). standing_with (seat_of c s).state (own_changes c.pieces (xid_of (seat_of c s).state) c.versions ++ more)) (sym (ap coming is))
+
     at_seat : (i : ℕ) (seat : Seat) (x : Session) → slice_get c.seats i ≡ Some seat → standing_of x ≡ standing_in c.pieces c.versions seat → has_changed x p ≡ option_map_or (λ holder. holder == (1 + i)) (holder_of c.claims p) false
     at_seat i seat x at like =
         let its = sound.each i seat at in
         let number : suc i ≡ 1 + i = omega arith in
         tells_changed x seat.state (changes_in c.pieces c.versions seat) p like (quiet_seat c (suc i) seat p its) ∙ sym (its.claimed p) ∙ ap (λ (n : ℕ). option_map_or (λ holder. holder == n) (holder_of c.claims p) false) number
+
     tells : (i : ℕ) (x : Session) → slice_get after.sessions i ≡ Some x → has_changed x p ≡ option_map_or (λ holder. holder == (1 + i)) (holder_of c.claims p) false
     tells i x at = by (i == (s - 1)) refl
       where
@@ -127,18 +134,21 @@ changer_is c s table command p m told there is sound stands used = found_other s
             let x_is : Some x ≡ Some (sessions.Open (with_use m used.t table)) = sym at ∙ ap (slice_get after.sessions) e ∙ those.own in
             let same : x ≡ sessions.Open (with_use m used.t table) = cc in
             at_seat i (seat_of c s) x (ap (slice_get c.seats) e ∙ seat_there c.seats s there) (ap standing_of same ∙ own_like)
+
         by : (b : Bool) → (i == (s - 1)) ≡ b → has_changed x p ≡ option_map_or (λ holder. holder == (1 + i)) (holder_of c.claims p) false
         by true e = mine (grind (arith, nat_tests, e))
         by false e =
             let differ : i ≢ s - 1 = grind (arith, nat_tests, e) in
             let like = seat_like (slice_get m.sessions i) x (slice_get c.seats i) (standing_in c.pieces c.versions) (sym (those.others i differ) ∙ at) (stands.sessions i) in
             at_seat i like.0 x like.1 like.2
+
     some_session : (o : Option Session) (q : Option Seat) (seat : Seat) → option_map standing_of o ≡ option_map (standing_in c.pieces c.versions) q → q ≡ Some seat → (x : Session) × (o ≡ Some x)
     some_session None q seat like at = absurd (clash (like ∙ ap (option_map (standing_in c.pieces c.versions)) at))
       where
         clash : None ≡ Some (standing_in c.pieces c.versions seat) → ⊥
         clash e = absurd (cc)
     some_session (Some x) q seat like at = (x, refl)
+
     in_range : (n : ℕ) → holder_of c.claims p ≡ Some n → (1 ≤ n) × (n < 1 + length after.sessions)
     in_range n held =
         let holder = holder_there c.seats c.claims p n sound.claims held in
@@ -154,18 +164,18 @@ pub insert_fails : (c : CoreState) (s table : ℕ) (key : ℤ) (row : Row) (foun
 insert_fails c s table key row found reply there is inside one sound at said refused =
     moment_over c (once_aborted c.xacts (xid_of (seat_of c s).state)) (once_released c.snaps (seat_of c s).job) (given_up s c.claims) s (failed_state (seat_of c s).state) (commands.Insert table key row) reply (GivenUp (failed_state (seat_of c s).state)) there is refl
     (λ m told counted stands.
-        let used = is_used c s table (commands.Insert table key row) m told there is inside sound stands in
-        let row_there = ap (option_map (row_of c.pieces)) at in
-        let answer_is = insert_open c.schemas m s table key row used.t (other_than s (holder_of c.claims (place table key))) (option_map (row_of c.pieces) found) used.at stands.upkeep sound.schemas one
-            (changer_is c s table (commands.Insert table key row) (place table key) m told there is sound stands used) (used.now (place table key) ∙ row_there) (used.view (place table key) ∙ row_there) in
-        record {
-          next = with_session (used_state m s used.t table) s sessions.Failed;
-          is = answer_is ∙ ap (λ (r : Reply). answered r (insert_after m s used.t table key row r)) said ∙ ap (answered reply) (fails m used.t reply refused);
-          stands = stands_said c _ _ _ s (failed_state (seat_of c s).state) jobs.Idle m (with_session (used_state m s used.t table) s sessions.Failed) told reply sessions.Failed there counted stands refl refl
-              (rows_abort c (xid_of (seat_of c s).state) (own_runs c s there sound) sound)
-              (sessions_then m (used_state m s used.t table) (with_session (used_state m s used.t table) s sessions.Failed) s (sessions.Open (with_use m used.t table)) sessions.Failed (sessions_set m s _ _ used.at) (sessions_set (used_state m s used.t table) s _ sessions.Failed (sessions_set m s _ _ used.at).own))
-              (failed_like (seat_of c s).state inside) (λ said pends. absurd (cc));
-        })
+    let used = is_used c s table (commands.Insert table key row) m told there is inside sound stands in
+    let row_there = ap (option_map (row_of c.pieces)) at in
+    let answer_is = insert_open c.schemas m s table key row used.t (other_than s (holder_of c.claims (place table key))) (option_map (row_of c.pieces) found) used.at stands.upkeep sound.schemas one
+    (changer_is c s table (commands.Insert table key row) (place table key) m told there is sound stands used) (used.now (place table key) ∙ row_there) (used.view (place table key) ∙ row_there) in
+    record {
+      next = with_session (used_state m s used.t table) s sessions.Failed;
+      is = answer_is ∙ ap (λ (r : Reply). answered r (insert_after m s used.t table key row r)) said ∙ ap (answered reply) (fails m used.t reply refused);
+      stands = stands_said c _ _ _ s (failed_state (seat_of c s).state) jobs.Idle m (with_session (used_state m s used.t table) s sessions.Failed) told reply sessions.Failed there counted stands refl refl
+          (rows_abort c (xid_of (seat_of c s).state) (own_runs c s there sound) sound)
+          (sessions_then m (used_state m s used.t table) (with_session (used_state m s used.t table) s sessions.Failed) s (sessions.Open (with_use m used.t table)) sessions.Failed (sessions_set m s _ _ used.at) (sessions_set (used_state m s used.t table) s _ sessions.Failed (sessions_set m s _ _ used.at).own))
+          (failed_like (seat_of c s).state inside) (λ said pends. absurd (cc));
+    })
   where
     fails : (m : Plain) (t : Transaction) (r : Reply) → (r ≡ replies.Okay → ⊥) → insert_after m s t table key row r ≡ with_session (used_state m s t table) s sessions.Failed
     fails m t replies.Okay refused = absurd (refused refl)
@@ -189,6 +199,7 @@ insert_fails c s table key row found reply there is inside one sound at said ref
     fails m t replies.Started refused = refl
     fails m t replies.Done refused = refl
     fails m t replies.Memory refused = refl
+
     failed_like : (state : State) → is_open state ≡ true → Failed ≡ standing_in c.pieces c.versions (record { state = failed_state state; job = jobs.Idle })
     failed_like states.Outside e = absurd (cc)
     failed_like states.Failed e = refl
@@ -200,37 +211,43 @@ pub insert_begun : (c : CoreState) (s table : ℕ) (key : ℤ) (row : Row) (valu
 insert_begun c s table key row value there is inside row_is sound at free =
     stepped_moment c s (commands.Insert table key row) (after_write_begun c s (place table key) value) advances.More is (record { line = WriteBegun (place table key) value; is = refl }) less
     (λ m told counted stands.
-        let used = is_used c s table (commands.Insert table key row) m told there is inside sound stands in
-        let none = ap (option_map (row_of c.pieces)) at in
-        let next : Plain = with_session (used_state m s used.t table) s (sessions.Open (with_change (with_use m used.t table) (Insert table key row))) in
-        record {
-          reply = replies.Okay;
-          next = next;
-          is = insert_open c.schemas m s table key row used.t None None used.at stands.upkeep sound.schemas (ap length row_is)
-              (changer_is c s table (commands.Insert table key row) (place table key) m told there is sound stands used ∙ free) (used.now (place table key) ∙ none) (used.view (place table key) ∙ none);
-          stands = stands_said c (once_assigned c.xacts s (xid_of (seat_of c s).state)) c.snaps (c.claims ++ (record { session = s; place = place table key }) ∷ []) s new_state (jobs.Writing job) m next told replies.Okay (sessions.Open (with_change (with_use m used.t table) (Insert table key row))) there counted stands refl refl
-              (rows_assigned (xid_of (seat_of c s).state))
-              (sessions_then m (used_state m s used.t table) next s (sessions.Open (with_use m used.t table)) _ (sessions_set m s _ _ used.at) (sessions_set (used_state m s used.t table) s _ _ (sessions_set m s _ _ used.at).own))
-              (more_like (with_use m used.t table) (seat_of c s).state inside used.like) (λ said pends. okay_is said pends);
-          says = (refl, refl, ap (λ (seat : Seat). is_past_moment seat.job) (seat_written c.seats s new_state (jobs.Writing job) there));
-        })
+    let used = is_used c s table (commands.Insert table key row) m told there is inside sound stands in
+    let none = ap (option_map (row_of c.pieces)) at in
+    let next : Plain = with_session (used_state m s used.t table) s (sessions.Open (with_change (with_use m used.t table) (Insert table key row))) in
+    record {
+      reply = replies.Okay;
+      next = next;
+      is = insert_open c.schemas m s table key row used.t None None used.at stands.upkeep sound.schemas (ap length row_is)
+          (changer_is c s table (commands.Insert table key row) (place table key) m told there is sound stands used ∙ free) (used.now (place table key) ∙ none) (used.view (place table key) ∙ none);
+      stands = stands_said c (once_assigned c.xacts s (xid_of (seat_of c s).state)) c.snaps (c.claims ++ (record { session = s; place = place table key }) ∷ []) s new_state (jobs.Writing job) m next told replies.Okay (sessions.Open (with_change (with_use m used.t table) (Insert table key row))) there counted stands refl refl
+          (rows_assigned (xid_of (seat_of c s).state))
+          (sessions_then m (used_state m s used.t table) next s (sessions.Open (with_use m used.t table)) _ (sessions_set m s _ _ used.at) (sessions_set (used_state m s used.t table) s _ _ (sessions_set m s _ _ used.at).own))
+          (more_like (with_use m used.t table) (seat_of c s).state inside used.like) (λ said pends. okay_is said pends);
+      says = (refl, refl, ap (λ (seat : Seat). is_past_moment seat.job) (seat_written c.seats s new_state (jobs.Writing job) there));
+    })
   where
     job : WriteJob
     job = begun_write (place table key) value
+
     xid : ℕ
     xid = begun_xid c.xacts (xid_of (seat_of c s).state)
+
     new_state : State
     new_state = with_xid (seat_of c s).state xid
+
     begun : IsBegun c.xacts (once_assigned c.xacts s (xid_of (seat_of c s).state)) (xid_of (seat_of c s).state) s xid
     begun = write_begins c.xacts (xid_of (seat_of c s).state) s (sound_of c s there sound).runs
+
     okay_is : (said : Reply) → pending_of c.pieces (jobs.Writing job) ≡ Some said → said ≡ replies.Okay
     okay_is said pends = sym (some_is pends)
       where
         some_is : Some replies.Okay ≡ Some said → replies.Okay ≡ said
         some_is e = cc
+
     rows_assigned : (own : Option ℕ) (p : Place) → committed_row (once_assigned c.xacts s own) c.pieces c.versions p ≡ committed_row c.xacts c.pieces c.versions p
     rows_assigned None p = ap (option_map (row_of c.pieces)) (found_same (is_committed (once_assigned c.xacts s None)) (is_committed c.xacts) p c.xacts c.pieces c.versions sound.versions (λ x given. committed_assign c.xacts s x))
     rows_assigned (Some x) p = refl
+
     more_like : (u : Transaction) (state : State) → is_open state ≡ true → standing_of (sessions.Open u) ≡ standing_with state (own_changes c.pieces (xid_of (seat_of c s).state) c.versions ++ [])
         → standing_of (sessions.Open (with_change u (Insert table key row))) ≡ standing_with (with_xid state xid) (own_changes c.pieces (xid_of (with_xid state xid)) c.versions ++ insertion (place table key) (value ∷ []) ∷ [])
     more_like u states.Outside e like = absurd (cc)
@@ -240,9 +257,10 @@ insert_begun c s table key row value there is inside row_is sound at free =
         let base_is : u.base ≡ None = cc in
         let changes_are : u.changes ≡ own_changes c.pieces (xid_of (seat_of c s).state) c.versions ++ [] = cc in
         let all : u.changes ++ Insert table key row ∷ [] ≡ changes_by c.pieces xid c.versions ++ insertion (place table key) (value ∷ []) ∷ [] =
-            ap (λ (cs : List Change). cs ++ Insert table key row ∷ []) (changes_are ∙ append-nil _ ∙ sym (changes_begun c.xacts c.pieces c.versions (xid_of (seat_of c s).state) xid begun.same sound.versions))
-            ∙ ap (λ (r : Row). changes_by c.pieces xid c.versions ++ Insert table key r ∷ []) row_is in
+        ap (λ (cs : List Change). cs ++ Insert table key row ∷ []) (changes_are ∙ append-nil _ ∙ sym (changes_begun c.xacts c.pieces c.versions (xid_of (seat_of c s).state) xid begun.same sound.versions))
+        ∙ ap (λ (r : Row). changes_by c.pieces xid c.versions ++ Insert table key r ∷ []) row_is in
         λ i. Open (level_is i) (base_is i) (all i)
+
     less : left (after_write_begun c s (place table key) value) s < left c s
     less =
         let new : left (after_write_begun c s (place table key) value) s ≡ suc (pieces_left value 0) = ap (λ (seat : Seat). left_of c.pieces seat.job) (seat_written c.seats s new_state (jobs.Writing job) there) in
@@ -278,10 +296,13 @@ piece_read c s job there is sound =
   where
     at_read : ReadJob → CoreState
     at_read j = record c { seats = seated c.seats s (seat_of c s).state (jobs.Reading (gathered c.pieces j)) }
+
     new : CoreState
     new = at_read job
+
     at : slice_index_or (seated c.seats s (seat_of c s).state (jobs.Reading (gathered c.pieces job))) (s - 1) nobody ≡ record { state = (seat_of c s).state; job = jobs.Reading (gathered c.pieces job) }
     at = seat_written c.seats s (seat_of c s).state (jobs.Reading (gathered c.pieces job)) there
+
     less : left new s < left c s
     less =
         let next = finds_next c.pieces c.snaps (seat_of c s).state job ((sound_of c s there sound).reading job is) in
@@ -296,20 +317,27 @@ pub last_read : (c : CoreState) (s : ℕ) (job : ReadJob) (reply : Reply) → Is
     → Stepped c s (record c { snaps = after_release c.snaps job.snapshot; seats = seated c.seats s (seat_of c s).state jobs.Idle }) (advances.Done reply)
 last_read c s job reply there is sound finished reply_is =
     stepped_on c s (jobs.Reading job) new (advances.Done reply) is refl (record { line = LastRead; is = ap at_read (sym (read_is c s job is)) }) less
-    (λ m told stands. (stands_last_read c s job m told there is stands, (
-      stands.pending (s - 1) (seat_of c s) reply (seat_there c.seats s there) (ap (pending_of c.pieces) is
-          ∙ ap (λ (bytes : List ℕ). Some (replies.Row job.key (Some bytes ∷ []))) (sym (reply_gathered c.pieces c.snaps (seat_of c s).state job reading finished)) ∙ ap Some (sym reply_is)),
-      ap (λ (seat : Seat). seat.job) at,
-    )))
+    (λ m told stands. (
+      stands_last_read c s job m told there is stands,
+      (
+        stands.pending (s - 1) (seat_of c s) reply (seat_there c.seats s there) (ap (pending_of c.pieces) is
+            ∙ ap (λ (bytes : List ℕ). Some (replies.Row job.key (Some bytes ∷ []))) (sym (reply_gathered c.pieces c.snaps (seat_of c s).state job reading finished)) ∙ ap Some (sym reply_is)),
+        ap (λ (seat : Seat). seat.job) at,
+      ),
+    ))
   where
     at_read : ReadJob → CoreState
     at_read j = record c { snaps = after_release c.snaps j.snapshot; seats = seated c.seats s (seat_of c s).state jobs.Idle }
+
     new : CoreState
     new = at_read job
+
     reading : IsReading c.pieces c.snaps (seat_of c s).state job
     reading = (sound_of c s there sound).reading job is
+
     at : slice_index_or (seated c.seats s (seat_of c s).state jobs.Idle) (s - 1) nobody ≡ record { state = (seat_of c s).state; job = jobs.Idle }
     at = seat_written c.seats s (seat_of c s).state jobs.Idle there
+
     less : left new s < left c s
     less =
         let next = finds_next c.pieces c.snaps (seat_of c s).state job reading in
@@ -332,16 +360,21 @@ piece_put c s job there is putting sound =
   where
     at_write : WriteJob → CoreState
     at_write j = record c { pieces = c.pieces ++ new_piece c.pieces j ∷ []; seats = seated c.seats s (seat_of c s).state (jobs.Writing (put_on c.pieces j)) }
+
     new : CoreState
     new = at_write job
+
     at : slice_index_or (seated c.seats s (seat_of c s).state (jobs.Writing (put_on c.pieces job))) (s - 1) nobody ≡ record { state = (seat_of c s).state; job = jobs.Writing (put_on c.pieces job) }
     at = seat_written c.seats s (seat_of c s).state (jobs.Writing (put_on c.pieces job)) there
+
     bytes : List ℕ
     bytes = bytes_of job.value
+
     cut : (a b : Bool) → is_cut bytes ≡ a → nat_lt job.written (length bytes) ≡ b → (a && b) ≡ true → (is_cut bytes ≡ true) × (job.written < length bytes)
     cut true true a b e = (a, grind (arith, nat_tests, b))
     cut true false a b e = absurd (cc)
     cut false x a b e = absurd (cc)
+
     less : left new s < left c s
     less =
         let both = cut (is_cut bytes) (nat_lt job.written (length bytes)) refl refl putting in
@@ -366,12 +399,16 @@ version_put c s job xid there is own finished sound =
   where
     at_write : WriteJob → CoreState
     at_write j = record c { versions = c.versions ++ version_for j xid ∷ []; seats = seated c.seats s (seat_of c s).state jobs.Idle }
+
     at_xid : ℕ → CoreState
     at_xid x = record c { versions = c.versions ++ version_for (write_in (seat_of c s).job) x ∷ []; seats = seated c.seats s (seat_of c s).state jobs.Idle }
+
     new : CoreState
     new = at_write job
+
     at : slice_index_or (seated c.seats s (seat_of c s).state jobs.Idle) (s - 1) nobody ≡ record { state = (seat_of c s).state; job = jobs.Idle }
     at = seat_written c.seats s (seat_of c s).state jobs.Idle there
+
     less : left new s < left c s
     less =
         let after : left new s ≡ 0 = ap (λ (seat : Seat). left_of c.pieces seat.job) at in
@@ -411,6 +448,7 @@ sound_failing c s there sound = sound_giving_up c s (failed_state (seat_of c s).
     none states.Outside = refl
     none states.Failed = refl
     none (states.Open level xid) = refl
+
     reads : (state : State) → reads_committed (failed_state state) ≡ true
     reads states.Outside = refl
     reads states.Failed = refl

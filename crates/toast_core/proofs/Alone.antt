@@ -1,19 +1,18 @@
 -- A key that nobody holds and that is not in sight has no version that counts.
-use Rattle.std.proofs.Common.{◌≡◌, ◌≢◌, ◌≤◌, ◌<◌, ◌-◌, ◌+◌, ℕ, Bool, true, false, cond, subst, List, [], ◌∷◌, ◌++◌, Option, Some, None, refl, sym, ap, ◌∙◌, arith, length, zero, suc, slice_get}
+use Rattle.std.proofs.Common.{◌≡◌, ◌-◌, ℕ, Bool, true, false, cond, List, [], ◌∷◌, ◌++◌, Option, Some, None, refl, sym, ap, ◌∙◌, arith, suc, slice_get}
 use Rattle.std.specs.Prelude.{◌==◌, ◌&&◌, ◌||◌, is_some, option_and_then}
-use Rattle.std.specs.List.{list_any, find}
 use Rattle.std.specs.Option.{option_map_or}
 use Rattle.std.proofs.lemmas.Bool.Decides.{nat_tests}
 use Rattle.tuple_layout.specs.declared.Place.{Place}
 use Rattle.tuple_layout.specs.Places.{same_place}
-use Rattle.xact_status.specs.Xacts.{Xacts, IsAssigned, session_at, is_running, is_committed}
+use Rattle.xact_status.specs.Xacts.{Xacts, session_at, is_running, is_committed}
 use Rattle.command_set.specs.declared.state.Change.{Change}
 use Rattle.command_set.specs.Changes.{keys_of, is_named}
 use Rattle.toast_core.specs.declared.parts.Version.{Version}
 use Rattle.toast_core.specs.declared.parts.Piece.{Piece}
 use Rattle.toast_core.specs.declared.parts.Seat.{Seat}
-use Rattle.toast_core.specs.State.{CoreState, IsSession, seat_of, version_by, row_of, xid_of, own_changes, changes_by, changes_in, coming, is_own, is_alive, in_sight, insertion}
-use Rattle.toast_core.specs.Sound.{IsSound, SeatIsSound, AreVersions, Owns, holder_of, is_holder}
+use Rattle.toast_core.specs.State.{CoreState, IsSession, seat_of, version_by, row_of, xid_of, own_changes, changes_by, coming, is_own, is_alive, in_sight, insertion}
+use Rattle.toast_core.specs.Sound.{IsSound, SeatIsSound, holder_of, is_holder}
 use Rattle.toast_core.proofs.Versions.{none_by_less}
 use Rattle.toast_core.proofs.Claims.{named_both}
 use Rattle.toast_core.proofs.Seats.{sound_of}

@@ -1,6 +1,6 @@
 -- What the plain store answers at each moment, by what the session is in.
-use Rattle.std.proofs.Common.{◌≡◌, ◌≢◌, ◌≤◌, ◌<◌, ◌-◌, ◌+◌, ℕ, ℤ, Bool, true, false, cond, subst, List, [], ◌∷◌, ◌++◌, Option, Some, None, refl, sym, ap, ◌∙◌, arith, length, zero, suc, slice_get, slice_set, inl, inr, ◌⊎◌}
-use Rattle.std.specs.Prelude.{◌==◌, ◌&&◌, ◌||◌, not, is_some, is_none, nat_lt, nat_le, map as mapped}
+use Rattle.std.proofs.Common.{◌≡◌, ◌≢◌, ◌≤◌, ◌<◌, ◌-◌, ◌+◌, ℕ, ℤ, Bool, true, false, cond, subst, List, [], ◌∷◌, Option, Some, None, refl, sym, ap, ◌∙◌, arith, length, zero, suc, slice_get}
+use Rattle.std.specs.Prelude.{◌==◌, ◌&&◌, ◌||◌, not, is_some, is_none, nat_lt, nat_le}
 use Rattle.std.specs.List.{find, list_any, enumerate_from}
 use Rattle.std.specs.Option.{unwrap_or, option_map, option_map_or}
 use Rattle.std.specs.FinMap as map
@@ -11,28 +11,24 @@ use Rattle.tuple_layout.specs.declared.Storage.{Storage}
 use Rattle.tuple_layout.specs.declared.Storage.TheVariants.{External}
 use Rattle.tuple_layout.specs.Places.{Row, Rows}
 use Rattle.tuple_layout.specs.Sizes.{all_out_size, column_end, header_size, is_missing, least_out, largest_tuple, width}
-use Rattle.command_set.specs.declared.state.Change.{Change}
 use Rattle.command_set.specs.declared.state.Change.TheVariants.{Insert}
-use Rattle.command_set.specs.Changes.{place, fold_changes}
+use Rattle.command_set.specs.Changes.{place}
 use Rattle.command_set.specs.declared.state.Plain.{Plain}
 use Rattle.command_set.specs.declared.state.Session.{Session}
 use Rattle.command_set.specs.declared.state.Session.TheVariants as sessions
 use Rattle.command_set.specs.declared.state.Transaction.{Transaction}
 use Rattle.command_set.specs.declared.state.Answered.{Answered}
-use Rattle.command_set.specs.declared.state.Upkeep.{Upkeep}
 use Rattle.command_set.specs.declared.state.Running.{Running}
 use Rattle.command_set.specs.Plain.{session_of, with_session, view_of, now_of, row_at}
-use Rattle.command_set.specs.Replies.{refusals, granted, reply_of, first_of, answers_if, outside, failed, locked, busy, taken, too_big, absent, transaction_of, new_transaction, rewriter_of, changer_of, least_other, schema_of, is_outside, is_failed, has_changed, is_granted, is_rewrite}
-use Rattle.command_set.specs.Answers.{answer, once_used, settled, effect, refused, with_use, with_transaction, with_change, with_failure, failed_session, committed, table_of}
+use Rattle.command_set.specs.Replies.{refusals, granted, reply_of, first_of, answers_if, outside, failed, locked, busy, taken, too_big, absent, transaction_of, new_transaction, rewriter_of, changer_of, schema_of, is_outside, is_failed, is_rewrite}
+use Rattle.command_set.specs.Answers.{answer, once_used, settled, with_use, with_transaction, with_change, with_failure, failed_session, committed, table_of}
 use Rattle.command_set.specs.declared.Level.{Level}
-use Rattle.command_set.specs.declared.Level.TheVariants as levels
 use Rattle.command_set.specs.declared.Command.{Command}
 use Rattle.command_set.specs.declared.Command.TheVariants as commands
 use Rattle.command_set.specs.declared.Reply.{Reply}
 use Rattle.command_set.specs.declared.Reply.TheVariants as replies
 use Rattle.toast_core.specs.Sound.{AreBuilt}
 use Rattle.toast_core.specs.Looks.{get_reply, insert_reply, other_than}
-use Rattle.toast_core.proofs.Seats.{read_there}
 
 abbrev pub answered : Reply → Plain → Answered
 answered reply after = record { reply = reply; after = after }

@@ -1,7 +1,7 @@
 -- Claims: who holds a place after a claim is made, and after a session has given its own up.
-use Rattle.std.proofs.Common.{◌≡◌, ◌≢◌, ◌≤◌, ℕ, Bool, true, false, cond, List, [], ◌∷◌, ◌++◌, Option, Some, None, refl, sym, ap, ◌∙◌, arith, length, append_assoc, zero, suc}
+use Rattle.std.proofs.Common.{◌≡◌, ℕ, Bool, true, false, cond, List, [], ◌∷◌, ◌++◌, Option, Some, None, refl, sym, ap, ◌∙◌, arith, length, append_assoc}
 use Rattle.std.specs.Prelude.{◌||◌, ◌&&◌, ◌==◌, not}
-use Rattle.std.specs.List.{find, list_any, filter}
+use Rattle.std.specs.List.{find}
 use Rattle.std.specs.Option.{option_map, option_map_or}
 use Rattle.std.proofs.lemmas.Bool.Decides.{nat_tests}
 use Rattle.tuple_layout.specs.declared.Place.{Place}
@@ -13,7 +13,7 @@ use Rattle.toast_core.specs.declared.parts.Seat.{Seat}
 use Rattle.toast_core.specs.State.{IsSession}
 use Rattle.toast_core.specs.Events.{given_up}
 use Rattle.toast_core.specs.Sound.{holder_of, is_holder, AreClaims}
-use Rattle.toast_core.proofs.Tests.{same_place_is}
+use Rattle.toast_core.proofs.Statuses.{same_place_is}
 
 or_or : (a b c : Bool) → (a || (b || c)) ≡ ((a || b) || c)
 or_or true b c = refl

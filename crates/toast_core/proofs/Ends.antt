@@ -1,12 +1,11 @@
 -- Every core is sound after a command is submitted, is over, or ends with its transaction.
-use Rattle.std.proofs.Common.{◌≡◌, ◌≢◌, ◌≤◌, ◌<◌, ◌-◌, ◌+◌, ℕ, Bool, true, false, cond, List, [], ◌∷◌, ◌++◌, Option, Some, None, refl, sym, ap, ◌∙◌, arith, length, zero, suc, subst, slice_get, slice_set, append-nil}
+use Rattle.std.proofs.Common.{◌≡◌, ◌≢◌, ◌-◌, ℕ, Bool, true, false, cond, List, [], ◌++◌, Option, Some, None, refl, sym, ap, ◌∙◌, arith, suc, subst, slice_get}
 use Rattle.std.specs.Prelude.{◌==◌, is_some, option_and_then}
 use Rattle.std.proofs.lemmas.Bool.Decides.{nat_tests}
 use Rattle.std.proofs.lemmas.List.{length-set}
-use Rattle.tuple_layout.specs.declared.Place.{Place}
-use Rattle.xact_status.specs.Xacts.{Xacts, IsAssigned, session_at, is_running, after_commit, after_abort}
+use Rattle.xact_status.specs.Xacts.{Xacts, IsAssigned, session_at, after_commit, after_abort}
 use Rattle.xact_status.proofs.Events.{assigned_set}
-use Rattle.snapshot_registry.specs.Snapshots.{Snaps, is_registered, held_at, after_release}
+use Rattle.snapshot_registry.specs.Snapshots.{Snaps, is_registered, after_release}
 use Rattle.snapshot_registry.specs.Laws.{IsRegistryOf}
 use Rattle.snapshot_registry.proofs.Entries.{held_at_release}
 use Rattle.snapshot_registry.proofs.Moments.{registry_release, registry_commit, registry_abort}
@@ -21,10 +20,10 @@ use Rattle.toast_core.specs.declared.parts.Job.{Job}
 use Rattle.toast_core.specs.declared.parts.Job.TheVariants as jobs
 use Rattle.toast_core.specs.declared.parts.ReadJob.{ReadJob}
 use Rattle.toast_core.specs.declared.parts.Seat.{Seat}
-use Rattle.toast_core.specs.State.{CoreState, IsSession, seat_of, is_alive, xid_of, own_changes, changes_in, coming}
-use Rattle.toast_core.specs.Events.{seated, after_over, after_submit, after_commit_of, after_giving_up, once_committed, once_aborted, once_released, given_up, first_id}
-use Rattle.toast_core.specs.Sound.{SeatIsSound, IsSound, IsBuilt, AreVersions, AreClaims, is_holder, Owns, AreApart, reads_committed}
-use Rattle.toast_core.proofs.Tests.{session_commit, session_abort, alive_commit, alive_abort, runs_for}
+use Rattle.toast_core.specs.State.{CoreState, IsSession, seat_of, is_alive, xid_of, own_changes, coming}
+use Rattle.toast_core.specs.Events.{seated, after_over, after_submit, after_commit_of, after_giving_up, once_committed, once_aborted, once_released, given_up}
+use Rattle.toast_core.specs.Sound.{SeatIsSound, IsSound, IsBuilt, AreClaims, is_holder, Owns, AreApart, reads_committed}
+use Rattle.toast_core.proofs.Statuses.{session_commit, session_abort, alive_commit, alive_abort, runs_for}
 use Rattle.toast_core.proofs.Versions.{versions_statuses}
 use Rattle.toast_core.proofs.Claims.{holder_given_up, claims_given_up, claims_seats}
 use Rattle.toast_core.proofs.Seats.{sound_of, each_seated, seat_frame, owns_written, apart_over, apart_written, seat_there}

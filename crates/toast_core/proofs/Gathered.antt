@@ -1,6 +1,6 @@
 -- A read that gathers its next piece, as the code does it.
-use Rattle.std.proofs.Common.{◌≡◌, ◌<◌, ◌-◌, ◌+◌, ℕ, Bool, List, [], ◌∷◌, ◌++◌, refl, sym, ap, ◌∙◌, arith, length, take, drop, zero, suc}
-use Rattle.std.specs.Prelude.{◌==◌, slice_index_or, min, nat_le}
+use Rattle.std.proofs.Common.{◌≡◌, ◌<◌, ◌-◌, ◌+◌, ℕ, List, [], ◌∷◌, ◌++◌, ap, ◌∙◌, arith, length, take, drop, zero, suc}
+use Rattle.std.specs.Prelude.{◌==◌, slice_index_or, min}
 use Rattle.std.specs.List.{position_or_len}
 use Rattle.std.proofs.lemmas.List.{take_rest, take_min}
 use Rattle.toast_core.specs.declared.parts.Piece.{Piece}

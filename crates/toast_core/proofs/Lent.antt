@@ -1,5 +1,5 @@
 -- A seat that is lent, and what states say of one another.
-use Rattle.std.proofs.Common.{◌≡◌, ◌≢◌, ◌<◌, ◌≤◌, ◌-◌, ◌+◌, ℕ, ℤ, Bool, true, false, List, [], ◌∷◌, ◌++◌, Option, Some, None, refl, sym, ap, ◌∙◌, subst, arith, slice_set, length, take, drop, zero, suc, length-take}
+use Rattle.std.proofs.Common.{◌≡◌, ◌<◌, ◌≤◌, ◌-◌, ◌+◌, ℕ, Bool, true, false, List, [], ◌∷◌, ◌++◌, Option, Some, None, refl, sym, ap, ◌∙◌, subst, arith, slice_set, length, take, drop, zero, suc, length-take}
 use Rattle.std.specs.Prelude.{◌==◌, ◌&&◌, cond, slice_index_or, min, nat_le, nat_lt, replicate, slice_get, option_and_then}
 use Rattle.std.specs.Option.{option_map, unwrap_or}
 use Rattle.std.specs.FinMap as map
@@ -14,30 +14,27 @@ use Rattle.snapshot_registry.proofs.Moments.{registry_none}
 use Rattle.command_set.specs.Plain.{first_state}
 use Rattle.command_set.specs.declared.state.Session.TheVariants as sessions
 use Rattle.slice_fetch.specs.Spans.{chunk_size}
-use Rattle.command_set.specs.declared.Command.{Command}
 use Rattle.command_set.specs.declared.Command.TheVariants as commands
 use Rattle.command_set.specs.declared.Level.{Level}
-use Rattle.command_set.specs.declared.Level.TheVariants.{Rc, Rr}
+use Rattle.command_set.specs.declared.Level.TheVariants.{Rc}
 use Rattle.command_set.specs.declared.Reply.{Reply}
 use Rattle.command_set.specs.declared.Reply.TheVariants as replies
 use Rattle.toast_core.specs.declared.Advance.TheVariants as advances
-use Rattle.toast_core.specs.declared.parts.StoredValue.{StoredValue}
 use Rattle.toast_core.specs.declared.parts.StoredValue.TheVariants as values
 use Rattle.toast_core.specs.declared.parts.Version.{Version}
 use Rattle.toast_core.specs.declared.parts.Claim.{Claim}
 use Rattle.toast_core.specs.declared.parts.Piece.{Piece}
 use Rattle.toast_core.specs.declared.parts.State.{State}
 use Rattle.toast_core.specs.declared.parts.State.TheVariants as states
-use Rattle.toast_core.specs.declared.parts.Job.{Job}
 use Rattle.toast_core.specs.declared.parts.Job.TheVariants as jobs
 use Rattle.toast_core.specs.declared.parts.ReadJob.{ReadJob}
 use Rattle.toast_core.specs.declared.parts.WriteJob.{WriteJob}
 use Rattle.toast_core.specs.declared.parts.Seat.{Seat}
-use Rattle.toast_core.specs.State.{CoreState, IsSession, pending_of, nobody, seat_of, xid_of, version_by, in_sight, row_of, coming}
+use Rattle.toast_core.specs.State.{CoreState, IsSession, pending_of, nobody, seat_of, xid_of, version_by, in_sight, row_of}
 use Rattle.toast_core.specs.Events.{seated, after_version_put, bytes_of, gathered, is_putting, next_bytes, read_in, version_for, write_in, only_value}
-use Rattle.toast_core.specs.Sound.{IsSound, IsBuilt, AreBuilt, AreApart, SeatIsSound, AreVersions, IsKept, IsReading, IsWriting, is_open, reads_committed, holder_of}
+use Rattle.toast_core.specs.Sound.{IsSound, AreBuilt, AreApart, SeatIsSound, AreVersions, IsKept, is_open, reads_committed}
 use Rattle.toast_core.specs.Looks.{StageIs, IsInPieces, obstacle, insert_reply, inserted, other_than}
-use Rattle.toast_core.specs.Jobs.{CanGather, Reads, Writes, is_read, noted, read_seat, read_snaps, read_advance}
+use Rattle.toast_core.specs.Jobs.{CanGather, Writes, is_read, noted, read_seat, read_snaps, read_advance}
 use Rattle.toast_core.proofs.Seats.{apart_over, sound_of, place_within}
 use Rattle.toast_core.proofs.Gathered.{at_any}
 use Rattle.toast_core.specs.Stands.{Stepped, Stands, standing_of, standing_in}

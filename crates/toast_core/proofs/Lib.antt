@@ -1,4 +1,4 @@
-pub mod Tests
+pub mod Statuses
 pub mod Pieces
 pub mod Versions
 pub mod Claims

@@ -1,15 +1,15 @@
 -- What each step of a command does, in terms of the plain store's answer.
-use Rattle.std.proofs.Common.{◌≡◌, ◌≢◌, ◌≤◌, ◌<◌, ◌-◌, ◌+◌, ℕ, ℤ, Bool, true, false, cond, subst, List, [], ◌∷◌, ◌++◌, Option, Some, None, refl, sym, ap, ◌∙◌, arith, length, take, zero, suc, slice_get, slice_set, append-nil}
-use Rattle.std.specs.Prelude.{◌==◌, ◌||◌, is_some, slice_index_or, map as mapped}
-use Rattle.std.specs.Option.{option_map, option_map_or, unwrap_or}
+use Rattle.std.proofs.Common.{◌≡◌, ◌<◌, ◌-◌, ℕ, ℤ, Bool, true, false, cond, subst, List, [], ◌∷◌, ◌++◌, Option, Some, None, refl, sym, ap, ◌∙◌, arith, length, take, zero, suc, slice_get, slice_set, append-nil}
+use Rattle.std.specs.Prelude.{◌==◌, is_some, slice_index_or, map as mapped}
+use Rattle.std.specs.Option.{option_map, unwrap_or}
 use Rattle.std.specs.FinMap as map
 use Rattle.std.proofs.lemmas.Bool.Decides.{nat_tests}
 use Rattle.std.proofs.lemmas.List.{length-map}
 use Rattle.list_facts.proofs.Changed.{get_set_same, get_set_other}
 use Rattle.tuple_layout.specs.declared.Place.{Place}
 use Rattle.tuple_layout.specs.Places.{Row, Rows}
-use Rattle.xact_status.specs.Xacts.{Xacts, IsAssigned, session_at, is_running, is_committed, after_commit, after_abort}
-use Rattle.xact_status.proofs.Events.{committed_assign, committed_commit, committed_abort}
+use Rattle.xact_status.specs.Xacts.{Xacts, is_running, is_committed, after_commit, after_abort}
+use Rattle.xact_status.proofs.Events.{committed_commit, committed_abort}
 use Rattle.snapshot_registry.specs.Snapshots.{Snaps, after_take}
 use Rattle.command_set.specs.declared.state.Change.{Change}
 use Rattle.command_set.specs.Changes.{place, fold_changes, keys_of}
@@ -19,9 +19,9 @@ use Rattle.command_set.specs.declared.state.Session.TheVariants as sessions
 use Rattle.command_set.specs.declared.state.Transaction.{Transaction}
 use Rattle.command_set.specs.Plain.{session_of, with_session, view_of, now_of}
 use Rattle.command_set.specs.Replies.{transaction_of, new_transaction, is_outside}
-use Rattle.command_set.specs.Answers.{answer, with_use, with_copy, with_transaction, with_failure, failed_session, committed, told_by}
+use Rattle.command_set.specs.Answers.{answer, with_use, with_copy, with_transaction, committed, told_by}
 use Rattle.command_set.specs.declared.Level.{Level}
-use Rattle.command_set.specs.declared.Level.TheVariants.{Rc, Rr}
+use Rattle.command_set.specs.declared.Level.TheVariants.{Rc}
 use Rattle.command_set.specs.declared.Command.{Command}
 use Rattle.command_set.specs.declared.Command.TheVariants as commands
 use Rattle.command_set.specs.declared.Reply.{Reply}
@@ -30,7 +30,6 @@ use Rattle.toast_core.specs.declared.Advance.{Advance}
 use Rattle.toast_core.specs.declared.Advance.TheVariants as advances
 use Rattle.toast_core.specs.declared.parts.StoredValue.TheVariants as values
 use Rattle.toast_core.specs.declared.parts.ReadJob.{ReadJob}
-use Rattle.toast_core.specs.declared.parts.WriteJob.{WriteJob}
 use Rattle.toast_core.specs.declared.parts.Version.{Version}
 use Rattle.toast_core.specs.declared.parts.Claim.{Claim}
 use Rattle.toast_core.specs.declared.parts.State.{State}
@@ -39,16 +38,16 @@ use Rattle.toast_core.specs.declared.parts.Job.{Job}
 use Rattle.toast_core.specs.declared.parts.Job.TheVariants as jobs
 use Rattle.toast_core.specs.declared.parts.Seat.{Seat}
 use Rattle.toast_core.specs.State.{CoreState, IsSession, nobody, joined, value_of, seat_of, version_by, row_of, xid_of, own_changes, changes_in, coming, pending_of, in_sight}
-use Rattle.toast_core.specs.Events.{Event, Line, ReadBegun, PieceRead, LastRead, WriteBegun, PiecePut, VersionPut, after_read_begun, Over, Committed, GivenUp, seated, after, after_over, after_commit_of, after_giving_up, after_failing, once_committed, once_aborted, once_released, given_up, failed_state, left, left_of}
-use Rattle.toast_core.specs.Sound.{IsSound, SeatIsSound, is_open, reads_committed}
-use Rattle.toast_core.specs.Stands.{is_past_moment, Stands, Standing, standing_of, standing_with, standing_in, committed_row, Says, Runs, MovedBy, EventBy, Moved, IsEvent, Stepped, Falls}
+use Rattle.toast_core.specs.Events.{Event, Line, ReadBegun, after_read_begun, Over, Committed, GivenUp, seated, after, after_over, after_commit_of, after_giving_up, once_committed, once_aborted, once_released, given_up, left, left_of}
+use Rattle.toast_core.specs.Sound.{IsSound, is_open}
+use Rattle.toast_core.specs.Stands.{is_past_moment, Stands, standing_of, standing_with, committed_row, Says, MovedBy, EventBy, Stepped}
 use Rattle.toast_core.specs.Looks.{get_said}
-use Rattle.toast_core.proofs.Tests.{runs_for}
+use Rattle.toast_core.proofs.Statuses.{runs_for}
 use Rattle.toast_core.proofs.Versions.{found_same, rows_in_sight}
-use Rattle.toast_core.proofs.Seats.{sound_of, seat_there, seat_written}
-use Rattle.toast_core.proofs.Answered.{answered, used_state, get_open, Sessions, sessions_same, sessions_set, session_at_place, within, begin_outside, begin_inside, commit_outside, commit_failed, commit_open, rollback_outside, rollback_inside, get_outside, get_failed, insert_outside, insert_failed}
+use Rattle.toast_core.proofs.Seats.{sound_of, seat_written}
+use Rattle.toast_core.proofs.Answered.{answered, used_state, get_open, sessions_same, sessions_set, session_at_place, within, begin_outside, begin_inside, commit_outside, commit_failed, commit_open, rollback_outside, rollback_inside, get_outside, get_failed, insert_outside, insert_failed}
 use Rattle.toast_core.proofs.Reading.{begun_read}
-use Rattle.toast_core.proofs.Standing.{IsLike, its_session, outside_by, failed_by, IsOpen, open_by, stands_by, stands_moment, stands_said}
+use Rattle.toast_core.proofs.Standing.{IsLike, its_session, outside_by, failed_by, open_by, stands_moment, stands_said}
 
 -- what a moment makes of one state of the plain store
 pub record Ran (c : CoreState) (s : ℕ) (command : Command) (new : CoreState) (advance : Advance) (m : Plain) (told : List (Option Reply)) : Type 0 where

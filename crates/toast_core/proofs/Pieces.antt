@@ -1,17 +1,16 @@
 -- Pieces of values: what one more leaves of the others, and where the next one stands.
-use Rattle.std.proofs.Common.{◌≡◌, ◌≢◌, ◌≤◌, ◌<◌, ◌+◌, ◌-◌, ℕ, Bool, true, false, cond, List, [], ◌∷◌, ◌++◌, Option, Some, None, length, take, drop, refl, sym, ap, ◌∙◌, arith, zero, suc, append-nil, append_assoc, length-append, ltb}
+use Rattle.std.proofs.Common.{◌≡◌, ◌≢◌, ◌≤◌, ◌<◌, ◌+◌, ℕ, Bool, true, false, cond, List, [], ◌∷◌, ◌++◌, Option, Some, None, length, take, drop, refl, sym, ap, ◌∙◌, arith, suc, append-nil, append_assoc, length-append, ltb}
 use Rattle.std.specs.Prelude.{◌==◌, slice_index_or, not}
 use Rattle.std.specs.List.{position_or_len, position_from}
 use Rattle.std.specs.Option.{unwrap_or}
 use Rattle.std.proofs.lemmas.Iterator.Adapters.{position_from-zero}
 use Rattle.std.proofs.lemmas.List.Sums.{prefix_len-le-length}
 use Rattle.std.proofs.lemmas.Bool.Decides.{nat_tests}
-use Rattle.std.proofs.lemmas.List.{take-append-le, drop-append-le}
+use Rattle.std.proofs.lemmas.List.{take-append-le}
 use Rattle.toast_core.specs.declared.parts.Piece.{Piece}
 use Rattle.toast_core.specs.declared.parts.StoredValue.{StoredValue}
 use Rattle.toast_core.specs.declared.parts.StoredValue.TheVariants as values
-use Rattle.toast_core.specs.declared.parts.Version.{Version}
-use Rattle.toast_core.specs.State.{joined, value_of, row_of}
+use Rattle.toast_core.specs.State.{joined, value_of}
 use Rattle.toast_core.specs.Events.{no_piece}
 use Rattle.toast_core.specs.Sound.{IsKept, AreBelow}
 

@@ -1,14 +1,13 @@
 -- Every core is sound after a piece or a version is put.
-use Rattle.std.proofs.Common.{◌≡◌, ◌≢◌, ◌≤◌, ◌<◌, ◌-◌, ◌+◌, ℕ, Bool, true, false, cond, List, [], ◌∷◌, ◌++◌, Option, Some, None, refl, sym, ap, ◌∙◌, arith, length, take, drop, zero, suc, subst, slice_get, slice_set, append-nil, append_assoc, length-append, length-take, inl, inr, ◌⊎◌}
-use Rattle.std.specs.Prelude.{◌==◌, ◌&&◌, ◌||◌, nat_lt, is_some, option_and_then, min}
-use Rattle.std.specs.List.{find, list_any}
-use Rattle.std.specs.Option.{unwrap_or, option_or, option_map, option_map_or}
+use Rattle.std.proofs.Common.{◌≡◌, ◌≢◌, ◌≤◌, ◌<◌, ◌-◌, ◌+◌, ℕ, Bool, true, false, cond, List, [], ◌∷◌, ◌++◌, Option, Some, None, refl, sym, ap, ◌∙◌, arith, length, take, drop, zero, suc, subst, slice_get, append-nil, length-append, length-take}
+use Rattle.std.specs.Prelude.{◌==◌, ◌&&◌, ◌||◌, nat_lt, min}
+use Rattle.std.specs.Option.{unwrap_or, option_or, option_map_or}
 use Rattle.std.proofs.lemmas.Bool.Decides.{nat_tests}
 use Rattle.std.proofs.Math.Seq.{take-length}
-use Rattle.std.proofs.lemmas.List.{length-set, length-drop, drop-append-le, take-append-le}
+use Rattle.std.proofs.lemmas.List.{length-set, length-drop, drop-append-le}
 use Rattle.tuple_layout.specs.declared.Place.{Place}
 use Rattle.tuple_layout.specs.Places.{same_place}
-use Rattle.xact_status.specs.Xacts.{Xacts, IsAssigned, session_at, is_running}
+use Rattle.xact_status.specs.Xacts.{Xacts, session_at}
 use Rattle.xact_status.proofs.Places.{assigned_from_running}
 use Rattle.snapshot_registry.specs.Snapshots.{Snaps}
 use Rattle.slice_fetch.specs.Spans.{chunk_size}
@@ -19,18 +18,17 @@ use Rattle.toast_core.specs.declared.parts.Version.{Version}
 use Rattle.toast_core.specs.declared.parts.Piece.{Piece}
 use Rattle.toast_core.specs.declared.parts.Claim.{Claim}
 use Rattle.toast_core.specs.declared.parts.State.{State}
-use Rattle.toast_core.specs.declared.parts.Job.{Job}
 use Rattle.toast_core.specs.declared.parts.Job.TheVariants as jobs
 use Rattle.toast_core.specs.declared.parts.WriteJob.{WriteJob}
 use Rattle.toast_core.specs.declared.parts.Seat.{Seat}
 use Rattle.toast_core.specs.State.{CoreState, IsSession, seat_of, xid_of, own_changes, changes_by, changes_in, coming, insertion, joined, version_by, is_alive, value_of, row_of}
 use Rattle.toast_core.specs.Events.{seated, bytes_of, is_cut, is_putting, first_id, id_for, next_bytes, put_on, stored, version_for}
-use Rattle.toast_core.specs.Sound.{SeatIsSound, IsSound, IsWriting, IsReading, IsPut, IsKept, AreVersions, AreBelow, AreApart, is_holder, holder_of}
-use Rattle.toast_core.proofs.Tests.{runs_for, same_place_is, same_place_self}
+use Rattle.toast_core.specs.Sound.{SeatIsSound, IsSound, IsWriting, IsKept, AreVersions, AreBelow, is_holder, holder_of}
+use Rattle.toast_core.proofs.Statuses.{runs_for, same_place_is, same_place_self}
 use Rattle.toast_core.proofs.Pieces.{joined_push, joined_other, joined_same, joined_none, below_higher, below_push}
 use Rattle.toast_core.proofs.Versions.{found_push, changes_push, changes_piece, versions_piece, versions_push}
 use Rattle.toast_core.proofs.Claims.{named_both, claims_seats}
-use Rattle.toast_core.proofs.Seats.{sound_of, each_seated, apart_over, apart_written, seat_there, number_at}
+use Rattle.toast_core.proofs.Seats.{sound_of, each_seated, apart_over, apart_written, seat_there}
 use Rattle.toast_core.proofs.Ends.{owners_same}
 use Rattle.toast_core.proofs.Writing.{writing_is, apart_writing}
 

@@ -1,13 +1,11 @@
 -- Every core is sound after a step of a read.
-use Rattle.std.proofs.Common.{◌≡◌, ◌≢◌, ◌≤◌, ◌<◌, ◌-◌, ◌+◌, ℕ, ℤ, Bool, true, false, cond, List, [], ◌∷◌, ◌++◌, Option, Some, None, refl, sym, ap, ◌∙◌, arith, length, take, drop, zero, suc, subst, slice_get, slice_set, append-nil, append_assoc, length-append, length-take, drop-drop}
-use Rattle.std.specs.Prelude.{◌==◌, nat_lt, is_some, option_and_then, slice_index_or, min}
+use Rattle.std.proofs.Common.{◌≡◌, ◌≢◌, ◌≤◌, ◌<◌, ◌-◌, ◌+◌, ℕ, ℤ, Bool, true, false, cond, List, [], ◌∷◌, ◌++◌, Some, refl, sym, ap, ◌∙◌, arith, length, take, drop, zero, suc, subst, slice_get, append-nil, append_assoc, length-append, length-take, drop-drop}
+use Rattle.std.specs.Prelude.{◌==◌, nat_lt, is_some, slice_index_or, min}
 use Rattle.std.specs.List.{position_or_len}
 use Rattle.std.proofs.lemmas.Bool.Decides.{nat_tests}
-use Rattle.std.proofs.lemmas.List.{length-set, length-drop, take-append-drop}
-use Rattle.tuple_layout.specs.declared.Place.{Place}
+use Rattle.std.proofs.lemmas.List.{length-set, length-drop}
 use Rattle.xact_status.specs.Xacts.{Xacts}
 use Rattle.snapshot_registry.specs.Snapshots.{Snaps, is_registered, held_at, after_take, after_release, least_free, snapshot_now}
-use Rattle.snapshot_registry.specs.declared.Held.{Held}
 use Rattle.snapshot_registry.proofs.Entries.{held_at_take, least_free_is_least}
 use Rattle.snapshot_registry.proofs.Moments.{registry_take, registry_release}
 use Rattle.command_set.specs.declared.state.Change.{Change}
@@ -21,7 +19,7 @@ use Rattle.toast_core.specs.declared.parts.Job.TheVariants as jobs
 use Rattle.toast_core.specs.declared.parts.ReadJob.{ReadJob}
 use Rattle.toast_core.specs.declared.parts.Seat.{Seat}
 use Rattle.toast_core.specs.State.{CoreState, IsSession, seat_of, xid_of, own_changes, coming, joined}
-use Rattle.toast_core.specs.Events.{seated, after_read_begun, after_piece_read, after_last_read, gathered, next_piece, no_piece, read_in}
+use Rattle.toast_core.specs.Events.{seated, after_read_begun, gathered, next_piece, no_piece}
 use Rattle.toast_core.specs.Sound.{SeatIsSound, IsSound, IsReading, AreApart, is_open}
 use Rattle.toast_core.proofs.Pieces.{joined_next, joined_absent}
 use Rattle.toast_core.proofs.Seats.{sound_of, each_seated, seat_frame, apart_over, apart_written, seat_there}

@@ -1,16 +1,12 @@
 -- The seats of sessions: what one event leaves of them.
-use Rattle.std.proofs.Common.{◌≡◌, ◌≢◌, ◌≤◌, ◌<◌, ◌-◌, ◌+◌, ℕ, Bool, true, false, cond, List, [], ◌∷◌, ◌++◌, Option, Some, None, refl, sym, ap, ◌∙◌, arith, length, zero, suc, inl, inr, slice_get, slice_set, append-nil, subst}
-use Rattle.std.specs.Prelude.{◌==◌, slice_index_or, option_and_then, is_some}
+use Rattle.std.proofs.Common.{◌≡◌, ◌≢◌, ◌≤◌, ◌<◌, ◌-◌, ℕ, Bool, true, false, List, [], ◌∷◌, Some, refl, sym, ap, ◌∙◌, arith, length, zero, suc, inl, inr, slice_get, subst}
+use Rattle.std.specs.Prelude.{◌==◌, slice_index_or, option_and_then}
 use Rattle.std.proofs.lemmas.Bool.Decides.{nat_tests}
 use Rattle.std.proofs.lemmas.List.{length-set}
 use Rattle.list_facts.proofs.Changed.{get_set_same, get_set_other, after_set, each_set}
 use Rattle.tuple_layout.specs.declared.Place.{Place}
-use Rattle.xact_status.specs.Xacts.{Xacts, IsAssigned, session_at, is_running}
-use Rattle.xact_status.proofs.Places.{assigned_from_running}
+use Rattle.xact_status.specs.Xacts.{Xacts, IsAssigned, session_at}
 use Rattle.snapshot_registry.specs.Snapshots.{Snaps, is_registered}
-use Rattle.command_set.specs.declared.state.Change.{Change}
-use Rattle.command_set.specs.Changes.{keys_of, is_named}
-use Rattle.command_set.specs.declared.Command.{Command}
 use Rattle.toast_core.specs.declared.parts.Version.{Version}
 use Rattle.toast_core.specs.declared.parts.Piece.{Piece}
 use Rattle.toast_core.specs.declared.parts.Claim.{Claim}
@@ -18,11 +14,10 @@ use Rattle.toast_core.specs.declared.parts.State.{State}
 use Rattle.toast_core.specs.declared.parts.Job.{Job}
 use Rattle.toast_core.specs.declared.parts.Job.TheVariants as jobs
 use Rattle.toast_core.specs.declared.parts.ReadJob.{ReadJob}
-use Rattle.toast_core.specs.declared.parts.WriteJob.{WriteJob}
 use Rattle.toast_core.specs.declared.parts.Seat.{Seat}
-use Rattle.toast_core.specs.State.{CoreState, IsSession, seat_of, nobody, version_by, is_alive, xid_of, own_changes, changes_in, coming}
+use Rattle.toast_core.specs.State.{CoreState, IsSession, seat_of, nobody, is_alive, xid_of}
 use Rattle.toast_core.specs.Events.{seated}
-use Rattle.toast_core.specs.Sound.{SeatIsSound, IsSound, IsReading, IsWriting, AreVersions, is_holder, Owns, AreApart}
+use Rattle.toast_core.specs.Sound.{SeatIsSound, IsSound, AreVersions, is_holder, Owns, AreApart}
 use Rattle.toast_core.proofs.Versions.{none_by_less}
 
 -- an element that is there is the one that is read

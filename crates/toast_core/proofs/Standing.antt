@@ -1,14 +1,14 @@
 -- What a core stands for after an event.
-use Rattle.std.proofs.Common.{◌≡◌, ◌≢◌, ◌≤◌, ◌<◌, ◌-◌, ◌+◌, ℕ, ℤ, Bool, true, false, cond, subst, List, [], ◌∷◌, ◌++◌, Option, Some, None, refl, sym, ap, ◌∙◌, arith, length, take, drop, zero, suc, slice_get, slice_set, inl, inr, ◌⊎◌, append-nil, append_assoc, length-append}
-use Rattle.std.specs.Prelude.{◌==◌, ◌&&◌, slice_index_or, map as mapped}
-use Rattle.std.specs.Option.{option_map, option_or, unwrap_or}
+use Rattle.std.proofs.Common.{◌≡◌, ◌≢◌, ◌≤◌, ◌<◌, ◌-◌, ℕ, Bool, true, false, cond, List, [], ◌∷◌, ◌++◌, Option, Some, None, refl, sym, ap, ◌∙◌, arith, length, take, drop, suc, slice_get, slice_set, inl, inr, append-nil}
+use Rattle.std.specs.Prelude.{◌==◌, ◌&&◌}
+use Rattle.std.specs.Option.{option_map, option_or}
 use Rattle.std.specs.FinMap as map
 use Rattle.std.proofs.lemmas.Bool.Decides.{nat_tests}
 use Rattle.std.proofs.lemmas.List.{take-append-le, drop-append-le}
 use Rattle.list_facts.proofs.Changed.{get_set_same, get_set_other, after_set}
 use Rattle.tuple_layout.specs.declared.Place.{Place}
-use Rattle.tuple_layout.specs.Places.{Row, Rows, same_place}
-use Rattle.xact_status.specs.Xacts.{Xacts, IsAssigned, session_at, is_running, is_committed}
+use Rattle.tuple_layout.specs.Places.{Rows, same_place}
+use Rattle.xact_status.specs.Xacts.{Xacts, session_at, is_committed}
 use Rattle.xact_status.proofs.Events.{running_is_uncommitted}
 use Rattle.snapshot_registry.specs.Snapshots.{Snaps, after_release}
 use Rattle.command_set.specs.declared.state.Change.{Change}
@@ -28,12 +28,12 @@ use Rattle.toast_core.specs.declared.parts.Job.TheVariants as jobs
 use Rattle.toast_core.specs.declared.parts.ReadJob.{ReadJob}
 use Rattle.toast_core.specs.declared.parts.WriteJob.{WriteJob}
 use Rattle.toast_core.specs.declared.parts.Seat.{Seat}
-use Rattle.toast_core.specs.State.{CoreState, IsSession, seat_of, version_by, row_of, xid_of, own_changes, changes_by, changes_in, coming, pending_of, joined, insertion, value_of}
-use Rattle.toast_core.specs.Events.{seated, gathered, put_on, stored, version_for, is_putting}
-use Rattle.toast_core.specs.Sound.{IsSound, SeatIsSound, IsReading, AreVersions, is_open, reads_committed}
+use Rattle.toast_core.specs.State.{CoreState, IsSession, seat_of, version_by, row_of, xid_of, own_changes, changes_in, coming, pending_of, joined, insertion}
+use Rattle.toast_core.specs.Events.{seated, gathered, put_on, version_for, is_putting}
+use Rattle.toast_core.specs.Sound.{IsSound, IsReading, AreVersions, is_open, reads_committed}
 use Rattle.command_set.specs.declared.Level.TheVariants.{Rc, Rr}
 use Rattle.toast_core.specs.Stands.{Stands, Standing, Outside, Failed, Open, standing_of, standing_with, standing_in, committed_row}
-use Rattle.toast_core.proofs.Tests.{runs_for}
+use Rattle.toast_core.proofs.Statuses.{runs_for}
 use Rattle.toast_core.proofs.Pieces.{joined_push}
 use Rattle.toast_core.proofs.Versions.{found_push, rows_piece, changes_piece}
 use Rattle.toast_core.proofs.Seats.{sound_of, seat_there, place_within}

@@ -1,17 +1,15 @@
 -- What an insert, the later steps of commands, and a failing end do.
-use Rattle.std.proofs.Common.{◌≡◌, ◌≢◌, ◌≤◌, ◌<◌, ◌-◌, ◌+◌, ℕ, ℤ, Bool, true, false, cond, subst, List, [], ◌∷◌, ◌++◌, Option, Some, None, refl, sym, ap, ◌∙◌, arith, length, take, drop, zero, suc, slice_get, slice_set, append-nil, length-append, length-take}
-use Rattle.std.specs.Prelude.{◌==◌, ◌||◌, ◌&&◌, ◌/◌, min, is_some, nat_lt, slice_index_or}
-use Rattle.std.specs.List.{find, list_any, enumerate_from}
+use Rattle.std.proofs.Common.{◌≡◌, ◌≢◌, ◌≤◌, ◌<◌, ◌-◌, ◌+◌, ℕ, ℤ, Bool, true, false, cond, subst, List, [], ◌∷◌, ◌++◌, Option, Some, None, refl, sym, ap, ◌∙◌, arith, length, drop, suc, slice_get, append-nil, length-take}
+use Rattle.std.specs.Prelude.{◌==◌, ◌&&◌, min, nat_lt, slice_index_or}
 use Rattle.std.specs.Option.{option_map, option_map_or, unwrap_or}
-use Rattle.std.specs.FinMap as map
 use Rattle.std.proofs.lemmas.Bool.Decides.{nat_tests}
 use Rattle.std.proofs.lemmas.List.{length-set, length-drop}
-use Rattle.list_facts.proofs.Changed.{get_set_same, get_set_other}
+use Rattle.list_facts.proofs.Changed.{get_set_other}
 use Rattle.tuple_layout.specs.declared.Place.{Place}
-use Rattle.tuple_layout.specs.Places.{Row, Rows, same_place}
-use Rattle.xact_status.specs.Xacts.{Xacts, is_running, is_committed, next_xid}
+use Rattle.tuple_layout.specs.Places.{Row}
+use Rattle.xact_status.specs.Xacts.{is_committed}
 use Rattle.xact_status.proofs.Events.{committed_assign}
-use Rattle.snapshot_registry.specs.Snapshots.{Snaps, after_release}
+use Rattle.snapshot_registry.specs.Snapshots.{after_release}
 use Rattle.slice_fetch.specs.Spans.{chunk_size}
 use Rattle.command_set.specs.declared.state.Change.{Change}
 use Rattle.command_set.specs.declared.state.Change.TheVariants.{Insert}
@@ -20,9 +18,9 @@ use Rattle.command_set.specs.declared.state.Plain.{Plain}
 use Rattle.command_set.specs.declared.state.Session.{Session}
 use Rattle.command_set.specs.declared.state.Session.TheVariants as sessions
 use Rattle.command_set.specs.declared.state.Transaction.{Transaction}
-use Rattle.command_set.specs.Plain.{session_of, with_session}
+use Rattle.command_set.specs.Plain.{with_session}
 use Rattle.command_set.specs.Replies.{changer_of, has_changed}
-use Rattle.command_set.specs.Answers.{answer, with_use, with_change, with_failure, failed_session}
+use Rattle.command_set.specs.Answers.{with_use, with_change, failed_session}
 use Rattle.command_set.specs.declared.Command.{Command}
 use Rattle.command_set.specs.declared.Command.TheVariants as commands
 use Rattle.command_set.specs.declared.Reply.{Reply}
@@ -30,7 +28,6 @@ use Rattle.command_set.specs.declared.Reply.TheVariants as replies
 use Rattle.toast_core.specs.declared.Advance.{Advance}
 use Rattle.toast_core.specs.declared.Advance.TheVariants as advances
 use Rattle.toast_core.specs.declared.parts.Version.{Version}
-use Rattle.toast_core.specs.declared.parts.Claim.{Claim}
 use Rattle.toast_core.specs.declared.parts.State.{State}
 use Rattle.toast_core.specs.declared.parts.State.TheVariants as states
 use Rattle.toast_core.specs.declared.parts.Job.{Job}
@@ -38,10 +35,10 @@ use Rattle.toast_core.specs.declared.parts.Job.TheVariants as jobs
 use Rattle.toast_core.specs.declared.parts.ReadJob.{ReadJob}
 use Rattle.toast_core.specs.declared.parts.WriteJob.{WriteJob}
 use Rattle.toast_core.specs.declared.parts.Seat.{Seat}
-use Rattle.toast_core.specs.State.{CoreState, IsSession, nobody, seat_of, version_by, row_of, xid_of, own_changes, changes_by, changes_in, coming, pending_of, in_sight, insertion, joined}
-use Rattle.toast_core.specs.Events.{Event, Line, after_submit, GivenUp, PieceRead, LastRead, WriteBegun, PiecePut, VersionPut, seated, after, after_failing, after_giving_up, after_write_begun, after_piece_read, after_last_read, after_piece_put, after_version_put, once_assigned, once_aborted, once_released, given_up, failed_state, with_xid, left, left_of, left_after, gathered, next_piece, bytes_of, is_cut, is_putting, next_bytes, put_on, pieces_in, pieces_left, only_value, read_in, write_in, version_for}
-use Rattle.toast_core.specs.Sound.{IsSound, SeatIsSound, IsReading, IsWriting, is_open, reads_committed, holder_of, is_holder}
-use Rattle.toast_core.specs.Stands.{Stands, Standing, Outside, Failed, Open, standing_of, standing_with, standing_in, committed_row, is_past_moment, Ends, Goes, MovedBy, EventBy, Moved, IsEvent, Stepped, Falls, StandsOn, OthersStay}
+use Rattle.toast_core.specs.State.{CoreState, IsSession, nobody, seat_of, version_by, row_of, xid_of, own_changes, changes_by, changes_in, coming, pending_of, in_sight, insertion}
+use Rattle.toast_core.specs.Events.{Event, after_submit, GivenUp, PieceRead, LastRead, WriteBegun, PiecePut, VersionPut, seated, after_failing, after_write_begun, once_assigned, once_aborted, once_released, given_up, failed_state, with_xid, left, left_of, gathered, next_piece, bytes_of, is_cut, is_putting, next_bytes, put_on, pieces_in, pieces_left, only_value, read_in, write_in, version_for}
+use Rattle.toast_core.specs.Sound.{IsSound, SeatIsSound, IsReading, is_open, reads_committed, holder_of}
+use Rattle.toast_core.specs.Stands.{Stands, Standing, Failed, Open, standing_of, standing_with, standing_in, committed_row, is_past_moment, Ends, MovedBy, EventBy, Stepped, Falls, StandsOn, OthersStay}
 use Rattle.toast_core.specs.Looks.{insert_reply, other_than}
 use Rattle.toast_core.proofs.Versions.{found_same}
 use Rattle.toast_core.proofs.Claims.{holder_there}
@@ -51,8 +48,8 @@ use Rattle.toast_core.proofs.Reading.{finds_next, reply_gathered}
 use Rattle.toast_core.proofs.Writing.{begun_write, begun_xid, changes_begun, IsBegun, write_begins}
 use Rattle.toast_core.proofs.Putting.{new_piece}
 use Rattle.toast_core.proofs.Answered.{answered, used_state, insert_after, insert_open, found_other, Sessions, sessions_set, sessions_then, session_at_place, within}
-use Rattle.toast_core.proofs.Standing.{IsLike, its_session, outside_by, failed_by, stands_said, stands_by, stands_on, stands_piece_read, stands_last_read, stands_piece_put, stands_version_put}
-use Rattle.toast_core.proofs.Moves.{stepped_moment, moment_over, over_with, IsUsed, is_used, rows_abort, own_runs}
+use Rattle.toast_core.proofs.Standing.{its_session, stands_said, stands_by, stands_on, stands_piece_read, stands_last_read, stands_piece_put, stands_version_put}
+use Rattle.toast_core.proofs.Moves.{stepped_moment, moment_over, IsUsed, is_used, rows_abort, own_runs}
 
 -- what the plain store's sessions have changed, as a core's claims have it
 tells_changed : (session : Session) (state : State) (changes : List Change) (p : Place) → standing_of session ≡ standing_with state changes → (is_open state ≡ false → is_named (keys_of changes) p ≡ false) → has_changed session p ≡ is_named (keys_of changes) p

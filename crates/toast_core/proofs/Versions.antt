@@ -1,22 +1,19 @@
 -- Versions at places: what is found after an event, and what a transaction's changes make of the committed rows.
-use Rattle.std.proofs.Common.{◌≡◌, ◌≢◌, ◌≤◌, ◌<◌, ℕ, Bool, true, false, cond, List, [], ◌∷◌, ◌++◌, Option, Some, None, refl, sym, ap, ◌∙◌, arith}
+use Rattle.std.proofs.Common.{◌≡◌, ℕ, Bool, true, false, cond, List, [], ◌∷◌, ◌++◌, Option, Some, None, refl, sym, ap, ◌∙◌, arith}
 use Rattle.std.specs.Prelude.{◌||◌, ◌&&◌, ◌==◌}
-use Rattle.std.specs.List.{find}
 use Rattle.std.specs.Option.{option_map, option_or}
 use Rattle.std.specs.FinMap as map
 use Rattle.std.proofs.lemmas.Bool.Decides.{nat_tests}
 use Rattle.tuple_layout.specs.declared.Place.{Place}
 use Rattle.tuple_layout.specs.Places.{Row, Rows, same_place, get-put}
 use Rattle.xact_status.specs.Xacts.{Xacts, IsAssigned, is_running, is_committed}
-use Rattle.xact_status.proofs.Events.{running_is_uncommitted}
 use Rattle.command_set.specs.declared.state.Change.{Change}
-use Rattle.command_set.specs.declared.state.Change.TheVariants.{Insert}
-use Rattle.command_set.specs.Changes.{fold_changes, made, keys_of, is_named, place}
+use Rattle.command_set.specs.Changes.{fold_changes}
 use Rattle.toast_core.specs.declared.parts.Version.{Version}
 use Rattle.toast_core.specs.declared.parts.Piece.{Piece}
 use Rattle.toast_core.specs.State.{version_by, row_of, changes_by, own_changes, in_sight, is_own, is_alive, insertion}
 use Rattle.toast_core.specs.Sound.{AreVersions, IsKept}
-use Rattle.toast_core.proofs.Tests.{same_place_is}
+use Rattle.toast_core.proofs.Statuses.{same_place_is}
 use Rattle.toast_core.proofs.Pieces.{value_push, kept_push}
 
 -- what is found is the same by two tests that tell alike of every xid that was given

@@ -1,40 +1,35 @@
 -- Every core is sound after a step of a write.
-use Rattle.std.proofs.Common.{◌≡◌, ◌≢◌, ◌≤◌, ◌<◌, ◌-◌, ◌+◌, ℕ, Bool, true, false, cond, List, [], ◌∷◌, ◌++◌, Option, Some, None, refl, sym, ap, ◌∙◌, arith, length, take, drop, zero, suc, subst, slice_get, slice_set, append-nil, append_assoc, length-append, length-take, inl, inr, ◌⊎◌}
-use Rattle.std.specs.Prelude.{◌==◌, ◌&&◌, ◌||◌, nat_lt, is_some, option_and_then, min}
-use Rattle.std.specs.List.{find, list_any}
-use Rattle.std.specs.Option.{unwrap_or, option_or, option_map, option_map_or}
+use Rattle.std.proofs.Common.{◌≡◌, ◌≢◌, ◌-◌, ℕ, Bool, true, false, cond, List, [], ◌∷◌, ◌++◌, Option, Some, None, refl, sym, ap, ◌∙◌, arith, suc, subst, slice_get, append-nil, inl, inr, ◌⊎◌}
+use Rattle.std.specs.Prelude.{◌==◌, ◌&&◌, ◌||◌, option_and_then}
+use Rattle.std.specs.Option.{unwrap_or}
 use Rattle.std.proofs.lemmas.Bool.Decides.{nat_tests}
-use Rattle.std.proofs.lemmas.List.{length-set, length-drop, drop-append-le, take-append-le}
+use Rattle.std.proofs.lemmas.List.{length-set}
 use Rattle.tuple_layout.specs.declared.Place.{Place}
 use Rattle.tuple_layout.specs.Places.{same_place}
-use Rattle.xact_status.specs.Xacts.{Xacts, IsAssigned, session_at, is_running, is_committed, next_xid, after_assign}
+use Rattle.xact_status.specs.Xacts.{Xacts, IsAssigned, session_at, next_xid}
 use Rattle.xact_status.proofs.Places.{assigned_from_running}
 use Rattle.xact_status.proofs.Events.{assigned_assign}
 use Rattle.snapshot_registry.specs.Snapshots.{Snaps}
 use Rattle.snapshot_registry.specs.Laws.{IsRegistryOf}
 use Rattle.snapshot_registry.proofs.Moments.{registry_assign}
-use Rattle.slice_fetch.specs.Spans.{chunk_size}
 use Rattle.command_set.specs.declared.state.Change.{Change}
 use Rattle.command_set.specs.Changes.{keys_of, is_named}
 use Rattle.toast_core.specs.declared.parts.Version.{Version}
 use Rattle.toast_core.specs.declared.parts.Piece.{Piece}
-use Rattle.toast_core.specs.declared.parts.Claim.{Claim}
 use Rattle.toast_core.specs.declared.parts.State.{State}
 use Rattle.toast_core.specs.declared.parts.State.TheVariants as states
 use Rattle.toast_core.specs.declared.parts.Job.{Job}
 use Rattle.toast_core.specs.declared.parts.Job.TheVariants as jobs
 use Rattle.toast_core.specs.declared.parts.WriteJob.{WriteJob}
 use Rattle.toast_core.specs.declared.parts.Seat.{Seat}
-use Rattle.toast_core.specs.State.{CoreState, IsSession, seat_of, xid_of, own_changes, changes_by, changes_in, coming, insertion, joined, version_by, is_alive}
-use Rattle.toast_core.specs.Events.{seated, once_assigned, with_xid, bytes_of, is_cut, is_putting, first_id, id_for, next_bytes, put_on, stored, version_for}
-use Rattle.toast_core.specs.Sound.{SeatIsSound, IsSound, IsWriting, IsPut, IsKept, AreVersions, AreBelow, AreApart, Owns, holder_of, is_holder, is_open, reads_committed}
+use Rattle.toast_core.specs.State.{CoreState, IsSession, seat_of, xid_of, own_changes, changes_by, coming, insertion, version_by, is_alive}
+use Rattle.toast_core.specs.Events.{seated, once_assigned, with_xid}
+use Rattle.toast_core.specs.Sound.{SeatIsSound, IsSound, IsWriting, AreVersions, AreApart, Owns, holder_of, is_holder, is_open, reads_committed}
 use Rattle.command_set.specs.declared.Level.TheVariants.{Rc, Rr}
-use Rattle.toast_core.proofs.Tests.{session_assign, alive_assign, runs_for, same_place_is}
-use Rattle.toast_core.proofs.Pieces.{joined_push, joined_other, joined_same, joined_none, below_higher, below_push}
-use Rattle.toast_core.proofs.Versions.{found_push, changes_push, changes_piece, changes_fresh, versions_piece, versions_push, versions_statuses, none_by_less}
+use Rattle.toast_core.proofs.Statuses.{session_assign, alive_assign, runs_for}
+use Rattle.toast_core.proofs.Versions.{changes_fresh, versions_statuses, none_by_less}
 use Rattle.toast_core.proofs.Claims.{named_both, holder_claimed, claims_push, claims_seats}
-use Rattle.toast_core.proofs.Seats.{sound_of, each_seated, seat_frame, owns_written, apart_over, apart_written, seat_there, seat_written, session_written}
-use Rattle.toast_core.proofs.Ends.{owners_same, seat_over}
+use Rattle.toast_core.proofs.Seats.{sound_of, each_seated, seat_frame, owns_written, apart_written, seat_there, seat_written, session_written}
 
 -- what an assignment makes of the statuses: the session has this xid, which runs for it, all others are as before
 pub record IsBegun (xacts new : Xacts) (own : Option ℕ) (s xid : ℕ) : Type 0 where

@@ -1,5 +1,5 @@
 -- The events of a core: what each makes of it, as one total function a line. `record c { .. }` says that all else stays.
-use Rattle.std.specs.Prelude.{◌≡◌, ℕ, ℤ, pos, suc, ◌+◌, ◌-◌, ◌/◌, Bool, true, false, ◌&&◌, not, nat_lt, List, [], ◌∷◌, ◌++◌, Option, Some, None, length, take, drop, slice_set, slice_index_or, ◌==◌, if◌then◌else◌}
+use Rattle.std.specs.Prelude.{◌≡◌, ℕ, ℤ, pos, suc, ◌+◌, ◌-◌, ◌/◌, Bool, ◌&&◌, not, nat_lt, List, [], ◌∷◌, ◌++◌, Option, Some, None, length, take, drop, slice_set, slice_index_or, ◌==◌, if◌then◌else◌}
 use Rattle.std.specs.List.{filter, position_or_len}
 use Rattle.std.specs.Option.{unwrap_or}
 use Rattle.tuple_layout.specs.declared.Place.{Place}
@@ -8,7 +8,6 @@ use Rattle.snapshot_registry.specs.Snapshots.{Snaps, least_free, after_take, aft
 use Rattle.slice_fetch.specs.Spans.{chunk_size}
 use Rattle.command_set.specs.declared.Command.{Command}
 use Rattle.command_set.specs.declared.Command.TheVariants as commands
-use Rattle.command_set.specs.declared.Level.{Level}
 use Rattle.toast_core.specs.declared.parts.StoredValue.{StoredValue}
 use Rattle.toast_core.specs.declared.parts.StoredValue.TheVariants as values
 use Rattle.toast_core.specs.declared.parts.Version.{Version}

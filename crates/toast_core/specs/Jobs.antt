@@ -1,8 +1,6 @@
 -- What a seat is to be for a step of its job.
-use Rattle.std.specs.Prelude.{◌≡◌, ◌+◌, ◌<◌, ◌≤◌, ℕ, Bool, true, List, [], ◌∷◌, Option, Some, length, nat_le, if◌then◌else◌}
-use Rattle.xact_status.specs.Xacts.{Xacts}
-use Rattle.snapshot_registry.specs.Snapshots.{Snaps, after_release, is_registered}
-use Rattle.tuple_layout.specs.Places.{Row}
+use Rattle.std.specs.Prelude.{◌≡◌, ◌+◌, ◌<◌, ◌≤◌, ℕ, Bool, List, [], ◌∷◌, Some, length, nat_le, if◌then◌else◌}
+use Rattle.snapshot_registry.specs.Snapshots.{Snaps, after_release}
 use Rattle.command_set.specs.declared.Reply.TheVariants as replies
 use Rattle.toast_core.specs.declared.Advance.{Advance}
 use Rattle.toast_core.specs.declared.Advance.TheVariants as advances
@@ -13,7 +11,6 @@ use Rattle.toast_core.specs.declared.parts.ReadJob.{ReadJob}
 use Rattle.toast_core.specs.declared.parts.WriteJob.{WriteJob}
 use Rattle.toast_core.specs.declared.parts.Seat.{Seat}
 use Rattle.toast_core.specs.Events.{bytes_of, gathered, next_piece, read_in, write_in}
-use Rattle.toast_core.specs.Looks.{inserted}
 
 -- a read lacks bytes, and a next piece of its value is there
 pub record CanGather (pieces : List Piece) (job : ReadJob) : Type 0 where

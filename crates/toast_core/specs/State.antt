@@ -1,5 +1,5 @@
 -- What a core holds, as its contracts see it: plain data, each part of it the public model of what keeps it.
-use Rattle.std.specs.Prelude.{ℕ, ◌+◌, ◌-◌, ◌≤◌, Bool, true, false, ◌&&◌, ◌||◌, List, [], ◌∷◌, ◌++◌, Option, Some, None, length, take, drop, slice_index_or, ◌==◌, if◌then◌else◌}
+use Rattle.std.specs.Prelude.{ℕ, ◌-◌, ◌≤◌, Bool, false, ◌&&◌, ◌||◌, List, [], ◌∷◌, ◌++◌, Option, Some, None, length, take, drop, slice_index_or, ◌==◌, if◌then◌else◌}
 use Rattle.std.specs.List.{find}
 use Rattle.std.specs.Option.{option_map_or}
 use Rattle.tuple_layout.specs.declared.Place.{Place}
@@ -20,8 +20,6 @@ use Rattle.toast_core.specs.declared.parts.State.{State}
 use Rattle.toast_core.specs.declared.parts.State.TheVariants as states
 use Rattle.toast_core.specs.declared.parts.Job.{Job}
 use Rattle.toast_core.specs.declared.parts.Job.TheVariants as jobs
-use Rattle.toast_core.specs.declared.parts.ReadJob.{ReadJob}
-use Rattle.toast_core.specs.declared.parts.WriteJob.{WriteJob}
 use Rattle.toast_core.specs.declared.parts.Seat.{Seat}
 
 -- a core: the tables' schemas, the statuses of transactions, the registered snapshots, the claimed places, the row versions, the pieces of long values, and each session with what it has under way

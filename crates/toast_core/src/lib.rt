@@ -275,3 +275,28 @@ impl Core {
         self.give_up(session, state);
     }
 }
+
+#[cfg(test)]
+mod tests {
+    use super::{Advance, Core, Setup, Under};
+    use command_set::{Command, Level, Reply};
+    use list_facts::ListOf;
+    use std::alloc::AllocError;
+
+    #[test]
+    fn a_transaction_begins(rt: HostRuntime) -> Result<(), AllocError> {
+        let alloc = rt.alloc();
+        let setup = Setup {
+            schemas: ListOf::new(alloc),
+            low: 16_384,
+            high: 16_384,
+            sessions: 2,
+        };
+        let mut core = Core::new(alloc, &setup)?;
+        assert!(rt; core.busy_with(2) == Under::Nothing);
+        core.submit(2, &Command::Begin { level: Level::Rc })?;
+        assert!(rt; core.busy_with(2) == Under::Data);
+        assert!(rt; core.advance(2)? == Advance::Done(Reply::Okay));
+        Ok(())
+    }
+}

@@ -1,4 +1,4 @@
-use Rattle.std.proofs.Common.{◌≡◌, None, subst}
+use Rattle.std.proofs.Common.{None, subst}
 use Rattle.std.specs.Prelude.{replicate}
 use Rattle.command_set.specs.Plain.{first_state}
 use Rattle.toast_core.specs.State.{CoreState}

@@ -1,4 +1,4 @@
-use Rattle.std.proofs.Common.{◌≡◌, ap, ◌∙◌, length, ◌==◌}
+use Rattle.std.proofs.Common.{ap, ◌∙◌, length, ◌==◌}
 use Rattle.std.specs.Option.{unwrap_or}
 use Rattle.toast_core.specs.declared.parts.Piece.{Piece}
 use Rattle.toast_core.proofs.Pieces.{place_from}

@@ -1,4 +1,4 @@
-use Rattle.std.proofs.Common.{rules, ◌≡◌, not, ◌==◌}
+use Rattle.std.proofs.Common.{rules, not, ◌==◌}
 use Rattle.std.proofs.lemmas.Fn.{filter_same}
 use Rattle.toast_core.specs.declared.parts.Claim.{Claim}
 use Rattle.toast_core.proofs.look.give_up_claims.Goals as goal

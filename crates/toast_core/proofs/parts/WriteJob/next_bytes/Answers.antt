@@ -1,6 +1,5 @@
-use Rattle.std.proofs.Common.{◌≡◌, ◌-◌, ℕ, List, ◌∙◌, ap, sym, take, drop, length}
+use Rattle.std.proofs.Common.{◌-◌, ℕ, List, ◌∙◌, ap, take, drop, length}
 use Rattle.std.proofs.lemmas.List.{take_rest, take_min}
-use Rattle.toast_core.specs.Events.{bytes_of}
 use Rattle.toast_core.proofs.parts.WriteJob.next_bytes.Goals as goal
 
 pub returns : goal.returns

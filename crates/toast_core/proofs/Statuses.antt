@@ -1,7 +1,6 @@
 -- Places that are one, and tests of what xids did.
-use Rattle.std.proofs.Common.{◌≡◌, ◌≢◌, ◌≤◌, ◌<◌, ℕ, ℤ, Bool, true, false, Option, Some, None, refl, sym, ap, ◌∙◌, arith, cond, ◌⊎◌, inl, inr}
-use Rattle.std.specs.Prelude.{◌||◌, ◌==◌, is_some, option_and_then}
-use Rattle.std.specs.Option.{option_map_or}
+use Rattle.std.proofs.Common.{◌≡◌, ◌≢◌, ℕ, ℤ, Bool, true, false, Some, None, refl, ap, ◌∙◌, arith, cond, ◌⊎◌, inl, inr}
+use Rattle.std.specs.Prelude.{◌==◌, is_some, option_and_then}
 use Rattle.std.specs.Ordering.{nat_cmp, int_cmp}
 use Rattle.std.specs.FinMap as finite
 use Rattle.std.proofs.lemmas.Bool.Decides.{nat_tests}
@@ -12,9 +11,9 @@ use Rattle.tuple_layout.specs.Places.{place_cmp, place_total, same_place}
 use Rattle.std.specs.Cmp.{eq_by_cmp_equiv}
 use Rattle.xact_status.specs.Xacts.{Xacts, IsAssigned, xact_at, session_of, session_at, next_xid, is_running, is_committed, after_assign, after_commit, after_abort}
 use Rattle.xact_status.specs.declared.Xact.{Xact}
-use Rattle.xact_status.specs.declared.Xact.TheVariants.{Running, Committed, Aborted}
-use Rattle.xact_status.proofs.Places.{xact_at_set, xact_at_push, xact_at_next, assigned_from_running, running_xact}
-use Rattle.xact_status.proofs.Events.{running_assign, running_set, committed_assign, committed_commit, committed_abort}
+use Rattle.xact_status.specs.declared.Xact.TheVariants.{Running}
+use Rattle.xact_status.proofs.Places.{xact_at_set, xact_at_push, assigned_from_running}
+use Rattle.xact_status.proofs.Events.{committed_assign, committed_commit, committed_abort}
 use Rattle.toast_core.specs.State.{is_alive}
 
 -- only one place ties with a place

@@ -1,1 +1,16 @@
-pub mod Moments
+pub mod Statuses
+pub mod Pieces
+pub mod Versions
+pub mod Claims
+pub mod Seats
+pub mod Ends
+pub mod Reading
+pub mod Writing
+pub mod Putting
+pub mod Alone
+pub mod Answered
+pub mod Standing
+pub mod Moves
+pub mod Stepping
+pub mod Gathered
+pub mod Lent

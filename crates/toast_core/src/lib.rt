@@ -1,236 +1,302 @@
-//! The store's core: one session over one table, whose rows are kept whole.
+//! The store's core: sessions over tables, each command in steps of one event.
 #![tactic(auto)]
 
-ghost use Rattle.std.specs.Option.{option_copied};
-ghost use Rattle.std.specs.Prelude.{◌≡◌, IfOk, OnErr, is_some, length, pos};
-ghost use Rattle.command_set.specs.Plain.{first_state};
-ghost use Rattle.toast_core.specs.Stands.{Answers, IsBuilt, Stands};
-ghost use Rattle.toast_core.specs.State.{row_of};
+mod job;
+mod look;
+mod moments;
+pub mod parts;
+mod stage;
+mod steps;
 
-use command_set::{Command, Level, Reply, Row};
+ghost use Rattle.std.specs.Prelude.{◌≡◌, ◌≤◌, [], None, true, IfOk, OnErr, OnOk, false, length, replicate};
+ghost use Rattle.command_set.specs.Journals.{takes_no_memory};
+ghost use Rattle.command_set.specs.Plain.{first_state};
+ghost use Rattle.toast_core.specs.State.{IsSession, coming, nobody, seat_of, xid_of};
+ghost use Rattle.toast_core.specs.Events.{after_failing, after_giving_up, after_submit, failed_state};
+ghost use Rattle.toast_core.specs.Sound.{AreBuilt, IsBuilt, IsSound, reads_committed};
+ghost use Rattle.toast_core.specs.Looks.{StageIs};
+ghost use Rattle.toast_core.specs.Stands.{Falls, IsEvent, Moved, OthersStay, Stands, StandsOn, under_of, wants_none};
+
+use crate::job::{copy_of_command, end, stage_of};
+use crate::look::{abort_xact, give_up_claims, own_xid, release_snapshot};
+use crate::parts::{Claim, Job, PieceList, Seat, State, VersionList};
+use crate::stage::Stage;
+use command_set::{Command, Reply, SchemaList};
+use list_facts::ListOf;
+use snapshot_registry::SnapRegistry;
 use std::alloc::{AllocError, Global};
 use std::marker::Model;
+use tuple_layout::{Schema, SchemaFault};
+use xact_status::XactTable;
 
-/// A row and its key.
-#[derive(Debug, Drop)]
-pub struct KeyedRow {
-    pub key: i64,
-    pub row: Row,
+/// What an advance of a session has come to.
+#[derive(Debug, Drop, PartialEq)]
+pub enum Advance {
+    /// Nothing was under way.
+    Idle,
+    /// The command goes on.
+    More,
+    /// The command is over.
+    Done(Reply),
 }
 
-/// Where the session is.
+/// What a session has under way.
 #[derive(Clone, Copy, Debug, PartialEq, Eq)]
-pub enum Session {
-    /// In no transaction.
-    Outside,
-    /// In a failed transaction.
-    Failed,
-    /// In a transaction.
-    Open,
+pub enum Under {
+    Nothing,
+    Data,
+    Upkeep,
 }
 
-/// A store of one table with one column, and its one session.
+/// The tables, the range of value ids, and the number of sessions.
+#[derive(Debug, Drop)]
+pub struct Setup {
+    pub schemas: SchemaList,
+    pub low: u32,
+    pub high: u32,
+    pub sessions: u16,
+}
+
+/// A store and its sessions.
 #[derive(Debug, Drop)]
 pub struct Core {
-    // The committed rows, and then those of the open transaction.
-    rows: Vec<KeyedRow>,
-    committed: usize,
-    session: Session,
+    schemas: SchemaList,
+    xacts: XactTable,
+    snaps: SnapRegistry,
+    claims: Vec<Claim>,
+    versions: VersionList,
+    pieces: PieceList,
+    seats: Vec<Seat>,
 }
 
 impl Model for Core {
-    ghost use Rattle.std.specs.Prelude.{◌≤◌, drop, length, take};
     ghost use Rattle.toast_core.specs.State.{CoreState};
+    ghost use Rattle.toast_core.specs.Sound.{IsSound};
 
     ghost Value = { CoreState };
 
-    ghost view = { λ core. record { rows = take core.committed core.rows.items; added = drop core.committed core.rows.items; session = core.session } };
+    ghost view = { λ core. record { schemas = core.schemas; xacts = core.xacts; snaps = core.snaps; claims = core.claims.items; versions = core.versions; pieces = core.pieces; seats = core.seats.items } };
 
-    ghost invariant = { λ core. core.committed ≤ length core.rows.items };
+    ghost invariant = { λ core. IsSound (record { schemas = core.schemas; xacts = core.xacts; snaps = core.snaps; claims = core.claims.items; versions = core.versions; pieces = core.pieces; seats = core.seats.items }) };
 }
 
-// The row that was put last at a key.
-fn last_row<'a>(rows: &'a [KeyedRow], key: &i64) -> Option<&'a Row>
-    ensures { option_copied result ≡ row_of rows.now key.now }
+// What a session is in once an open transaction of it has failed.
+fn failed(state: State) -> State
+    ensures { result ≡ failed_state state }
 {
-    rows.iter()
-        .rev()
-        .find(|keyed| *key == keyed.key)
-        .map(|keyed| &keyed.row)
+    match state {
+        State::Open { level: _, xid: _ } => State::Failed,
+        State::Outside => State::Outside,
+        State::Failed => State::Failed,
+    }
 }
 
-fn has_key(rows: &[KeyedRow], key: &i64) -> bool
-    ensures { result ≡ is_some (row_of rows.now key.now) }
+// A copy of a schema.
+fn copy_of_schema(alloc: Global, schema: &Schema) -> Result<Schema, AllocError>
+    ensures { IfOk result (λ copy. copy ≡ schema.now) }
 {
-    last_row(rows, key).is_some()
+    match Schema::new(alloc, schema.storages()) {
+        Ok(copy) => Ok(copy),
+        Err(SchemaFault::Memory) => Err(AllocError),
+        Err(SchemaFault::Count { got: _ }) => Err(AllocError),
+    }
 }
 
-// Keys go by reference into functions of their own, whose proofs then know their range.
-fn row_reply(key: &i64, row: Row) -> Reply
-    ensures { result ≡ Reply.Row key.now row }
+// A copy of schemas.
+fn copy_of_schemas(alloc: Global, schemas: &SchemaList) -> Result<SchemaList, AllocError>
+    ensures { IfOk result (λ copy. copy ≡ schemas.now) }
 {
-    Reply::Row { key: *key, row }
+    let mut copies = ListOf::new(alloc);
+    let schemas = schemas.as_slice();
+    for schema in schemas {
+        let copy = copy_of_schema(alloc, schema)?;
+        copies.push(copy)?;
+    }
+    Ok(copies)
 }
 
-fn keyed_row(key: &i64, row: Row) -> KeyedRow
-    ensures { result ≡ record { key = key.now; row = row } }
+// The seats of so many sessions, which are in no transaction.
+fn empty_seats(alloc: Global, sessions: u16) -> Result<Vec<Seat>, AllocError>
+    ensures { IfOk result (λ seats. seats.items ≡ replicate sessions nobody) }
 {
-    KeyedRow { key: *key, row }
-}
-
-// A copy of a row.
-fn copy_of(row: &Row) -> Result<Row, AllocError>
-    ensures { IfOk result (λ copy. copy ≡ row.now) }
-{
-    let copy = row.clone()?;
-    Ok(copy)
+    let mut seats = Vec::new(alloc);
+    for _ in 0..sessions {
+        seats.push(Seat {
+            state: State::Outside,
+            job: Job::Idle,
+        })?;
+    }
+    Ok(seats)
 }
 
 impl Core {
-    /// An empty store, whose one session is in no transaction. It takes no memory.
-    pub fn single(alloc: Global) -> Core
-        ensures { Stands result (first_state 1) }
+    /// An empty store, whose sessions are in no transaction.
+    pub fn new(alloc: Global, setup: &Setup) -> Result<Core, AllocError>
+        requires ids { (16384 ≤ setup.now.low) × (setup.now.low ≤ setup.now.high) }
+        requires tables { length setup.now.schemas ≤ 16 }
+        requires built { AreBuilt setup.now.schemas }
+        requires sessions { setup.now.sessions ≤ 64 }
+        ensures schemas { IfOk result (λ core. core.schemas ≡ setup.now.schemas) }
+        ensures seats { IfOk result (λ core. core.seats ≡ replicate setup.now.sessions nobody) }
+        ensures stands { IfOk result (λ core. Stands core (first_state setup.now.sessions) (replicate setup.now.sessions None)) }
     {
-        Core {
-            rows: Vec::new(alloc),
-            committed: 0,
-            session: Session::Outside,
-        }
+        let schemas = copy_of_schemas(alloc, &setup.schemas)?;
+        let seats = empty_seats(alloc, setup.sessions)?;
+        Ok(Core {
+            schemas,
+            xacts: XactTable::new(alloc),
+            snaps: SnapRegistry::new(alloc),
+            claims: Vec::new(alloc),
+            versions: ListOf::new(alloc),
+            pieces: ListOf::new(alloc),
+            seats,
+        })
     }
 
-    /// Executes a whole command: begin under read committed, commit, and get and insert in table 1.
+    /// Submits a command to a session that has none under way. The command is copied.
     ///
-    /// Where there is no memory, the store is as before.
-    pub fn execute(&mut self, command: &Command) -> Result<Reply, AllocError>
-        requires { IsBuilt command.now }
-        ensures answer { IfOk result (Answers self.old command.now self.new) }
-        ensures memory { OnErr result (self.new ≡ self.old) }
+    /// Where there is no memory, the session's open transaction has failed. Begin, commit and rollback
+    /// take none.
+    pub fn submit(&mut self, session: u16, command: &Command) -> Result<(), AllocError>
+        requires session { IsSession self.old.seats session }
+        requires idle { (seat_of self.old session).job ≡ Job.Idle }
+        requires built { IsBuilt command.now }
+        ensures ok { OnOk result (self.new ≡ after_submit self.old session command.now) }
+        ensures stands { OnOk result (StandsOn self.old self.new) }
+        ensures err { OnErr result (self.new ≡ after_failing self.old session) }
+        ensures falls { OnErr result (Falls self.old session self.new) }
+        ensures wanted { OnErr result (takes_no_memory command.now ≡ false) }
+        ensures others { OthersStay self.old session self.new }
     {
-        match command {
-            Command::Begin { level: _ } => Ok(self.begin()),
-            Command::Commit => Ok(self.commit()),
-            Command::Get { table: _, key } => {
-                let reply = self.get(key)?;
-                Ok(reply)
+        match copy_of_command(command) {
+            Ok(copy) => {
+                self.begin_command(session, copy);
+                Ok(())
             }
-            Command::Insert { table: _, key, row } => {
-                let reply = self.insert(key, row)?;
-                Ok(reply)
-            }
-            _ => unreachable!(),
-        }
-    }
-
-    fn begin(&mut self) -> Reply
-        ensures { Answers self.old (Command.Begin Level.Rc) self.new result }
-    {
-        match self.session {
-            Session::Outside => {
-                self.session = Session::Open;
-                Reply::Okay
-            }
-            Session::Failed | Session::Open => Reply::Inside,
-        }
-    }
-
-    fn commit(&mut self) -> Reply
-        ensures { Answers self.old Command.Commit self.new result }
-    {
-        match self.session {
-            Session::Outside => Reply::Outside,
-            Session::Failed => {
-                self.session = Session::Outside;
-                Reply::RolledBack
-            }
-            Session::Open => {
-                self.committed = self.rows.len();
-                self.session = Session::Outside;
-                Reply::Okay
+            Err(fault) => {
+                self.fail(session);
+                Err(fault)
             }
         }
     }
 
-    fn get(&self, key: &i64) -> Result<Reply, AllocError>
-        ensures { IfOk result (Answers self.now (Command.Get 1 key.now) self.now) }
+    // Puts a command under way.
+    fn begin_command(&mut self, session: u16, command: Command)
+        requires session { IsSession self.old.seats session }
+        requires idle { (seat_of self.old session).job ≡ Job.Idle }
+        requires built { IsBuilt command }
+        ensures after { self.new ≡ after_submit self.old session command }
+        ensures stands { StandsOn self.old self.new }
+        ensures others { OthersStay self.old session self.new }
     {
-        match self.session {
-            Session::Outside => Ok(Reply::Outside),
-            Session::Failed => Ok(Reply::Failed),
-            Session::Open => match last_row(&self.rows, key) {
-                Some(row) => {
-                    let row = copy_of(row)?;
-                    Ok(row_reply(key, row))
-                }
-                None => Ok(Reply::Absent),
-            },
+        let at = usize::from(session - 1);
+        let state = self.seats[at].state;
+        self.seats[at] = Seat {
+            state,
+            job: Job::Submitted(command),
+        };
+    }
+
+    /// Makes one event of a session's command, if one is under way.
+    ///
+    /// Where there is no memory, the command is over and the session's open transaction has failed.
+    /// Begin, commit and rollback take none.
+    pub fn advance(&mut self, session: u16) -> Result<Advance, AllocError>
+        requires session { IsSession self.old.seats session }
+        ensures moved { IfOk result (Moved self.old session self.new) }
+        ensures event { OnOk result (IsEvent self.old session self.new) }
+        ensures err { OnErr result (self.new ≡ after_failing self.old session) }
+        ensures falls { OnErr result (Falls self.old session self.new) }
+        ensures wanted { OnErr result (wants_none (seat_of self.old session).job ≡ false) }
+        ensures others { OthersStay self.old session self.new }
+    {
+        match self.step(session) {
+            Ok(advance) => Ok(advance),
+            Err(fault) => {
+                self.fail(session);
+                Err(fault)
+            }
         }
     }
 
-    fn insert(&mut self, key: &i64, row: &Row) -> Result<Reply, AllocError>
-        requires { length row.now ≡ 1 }
-        ensures answer { IfOk result (Answers self.old (Command.Insert 1 key.now row.now) self.new) }
-        ensures memory { OnErr result (self.new ≡ self.old) }
+    /// What a session has under way.
+    pub fn busy_with(&self, session: u16) -> Under
+        requires { IsSession self.now.seats session }
+        ensures { result ≡ under_of (seat_of self.now session).job }
     {
-        match self.session {
-            Session::Outside => Ok(Reply::Outside),
-            Session::Failed => Ok(Reply::Failed),
-            Session::Open => {
-                if has_key(&self.rows, key) {
-                    self.rows.truncate(self.committed);
-                    self.session = Session::Failed;
-                    return Ok(Reply::Taken);
-                }
-                let row = copy_of(row)?;
-                self.rows.push(keyed_row(key, row))?;
-                Ok(Reply::Okay)
-            }
+        let _ = &self.claims;
+        match &self.seats[usize::from(session - 1)].job {
+            Job::Idle => Under::Nothing,
+            Job::Submitted(_) => Under::Data,
+            Job::Reading(_) => Under::Data,
+            Job::Writing(_) => Under::Data,
         }
+    }
+
+    // What a session is in.
+    fn state(&self, session: u16) -> State
+        requires { IsSession self.now.seats session }
+        ensures state { result ≡ (seat_of self.now session).state }
+        ensures sound { IsSound self.now }
+    {
+        self.seats[usize::from(session - 1)].state
+    }
+
+    // What a session is to do next.
+    fn stage(&self, session: u16) -> Stage
+        requires { IsSession self.now.seats session }
+        ensures { StageIs (seat_of self.now session).job result }
+    {
+        stage_of(&self.seats[usize::from(session - 1)].job)
+    }
+
+    // Ends a session's transaction without a commit, and what it has under way, and leaves it in this.
+    fn give_up(&mut self, session: u16, state: State)
+        requires session { IsSession self.old.seats session }
+        requires level { reads_committed state ≡ true }
+        requires none { xid_of state ≡ None }
+        ensures { self.new ≡ after_giving_up self.old session state }
+    {
+        let at = usize::from(session - 1);
+        abort_xact(&mut self.xacts, own_xid(self.seats[at].state));
+        release_snapshot(&mut self.snaps, &self.seats[at].job);
+        give_up_claims(&mut self.claims, session);
+        end(&mut self.seats[at], state);
+    }
+
+    // Ends a session's command, and its open transaction as a failed one.
+    fn fail(&mut self, session: u16)
+        requires { IsSession self.old.seats session }
+        ensures after { self.new ≡ after_failing self.old session }
+        ensures falls { Falls self.old session self.new }
+        ensures others { OthersStay self.old session self.new }
+    {
+        let state = failed(self.state(session));
+        self.give_up(session, state);
     }
 }
 
 #[cfg(test)]
 mod tests {
-    use super::Core;
-    use command_set::{Command, Level, Reply, Row};
+    use super::{Advance, Core, Setup, Under};
+    use command_set::{Command, Level, Reply};
     use list_facts::ListOf;
-    use std::alloc::{AllocError, Global};
-
-    fn one_value(alloc: Global, byte: u8) -> Result<Row, AllocError>
-        ensures { IfOk result (λ row. length row ≡ 1) }
-    {
-        let mut row = ListOf::new(alloc);
-        row.push(Some(ListOf::from_slice(alloc, &[byte])?))?;
-        Ok(row)
-    }
+    use std::alloc::AllocError;
 
     #[test]
-    fn a_second_insert_of_a_key_fails_the_transaction(rt: HostRuntime) -> Result<(), AllocError> {
+    fn a_transaction_begins(rt: HostRuntime) -> Result<(), AllocError> {
         let alloc = rt.alloc();
-        let mut core = Core::single(alloc);
-        let first = Command::Insert {
-            table: 1,
-            key: 1,
-            row: one_value(alloc, 3)?,
+        let setup = Setup {
+            schemas: ListOf::new(alloc),
+            low: 16_384,
+            high: 16_384,
+            sessions: 2,
         };
-        let second = Command::Insert {
-            table: 1,
-            key: 1,
-            row: one_value(alloc, 0)?,
-        };
-        let get = Command::Get { table: 1, key: 1 };
-        assert!(rt; core.execute(&Command::Begin { level: Level::Rc })? == Reply::Okay);
-        assert!(rt; core.execute(&first)? == Reply::Okay);
-        assert!(rt;
-            core.execute(&get)?
-                == Reply::Row {
-                    key: 1,
-                    row: one_value(alloc, 3)?
-                }
-        );
-        assert!(rt; core.execute(&second)? == Reply::Taken);
-        assert!(rt; core.execute(&get)? == Reply::Failed);
-        assert!(rt; core.execute(&Command::Commit)? == Reply::RolledBack);
-        assert!(rt; core.execute(&get)? == Reply::Outside);
+        let mut core = Core::new(alloc, &setup)?;
+        assert!(rt; core.busy_with(2) == Under::Nothing);
+        core.submit(2, &Command::Begin { level: Level::Rc })?;
+        assert!(rt; core.busy_with(2) == Under::Data);
+        assert!(rt; core.advance(2)? == Advance::Done(Reply::Okay));
         Ok(())
     }
 }

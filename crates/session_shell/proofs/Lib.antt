@@ -1,6 +1,8 @@
-pub mod Keys
-pub mod Cuts
-pub mod Built
-pub mod Commands
-pub mod Transcripts
-pub mod Outcomes
+pub mod Answered
+pub mod Cores
+pub mod Runs
+pub mod Frames
+pub mod Kept
+pub mod Firsts
+pub mod Made
+pub mod Laters

@@ -1,4 +1,5 @@
-pub mod Script
 pub mod Lines
-pub mod Parsed
-pub mod Replay
+pub mod Hubs
+pub mod Steps
+pub mod Turns
+pub mod Follows

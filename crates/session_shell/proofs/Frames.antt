@@ -129,3 +129,9 @@ all_entries (told ∷ tolds) (session ∷ sessions) e each =
     let a = sum_by-cons most_entries told tolds in
     let b = sum_by-cons length session sessions in
     omega (arith, rest, here, most, a, b)
+
+-- as many places as sessions
+pub length-places : (tolds : List Told) (seats : List Seat) → length tolds ≡ length seats → length (places_by tolds seats) ≡ length tolds
+length-places [] seats e = refl
+length-places (told ∷ tolds) [] e = absurd (omega arith)
+length-places (told ∷ tolds) (seat ∷ seats) e = ap (λ n. suc n) (length-places tolds seats (omega arith))

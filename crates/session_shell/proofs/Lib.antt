@@ -6,3 +6,7 @@ pub mod Kept
 pub mod Firsts
 pub mod Made
 pub mod Laters
+pub mod News
+pub mod Counts
+pub mod Turning
+pub mod Whole

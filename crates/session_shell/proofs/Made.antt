@@ -33,7 +33,7 @@ use Rattle.session_shell.specs.Hubs.{HubState, IsHub, Keeps, IsLastEntry, at_sta
 use Rattle.session_shell.specs.Steps.{BeginsBy}
 use Rattle.session_shell.specs.Turns.{TurnMade, Place, End, Nothing, More, Ended, place_of, places_by, places_in, place_after, IsTurn, BeginsBy as TurnBeginsBy, Ran, MakesTurn, NamesLast, entry_in, turn_made, end_of, is_one_step}
 use Rattle.session_shell.proofs.Runs.{run_push}
-use Rattle.session_shell.proofs.Frames.{place_is, places_set, seats_set, progress_here, told_here, all_entries}
+use Rattle.session_shell.proofs.Frames.{length-places, place_is, places_set, seats_set, progress_here, told_here, all_entries}
 use Rattle.session_shell.proofs.Kept.{same_count}
 use Rattle.session_shell.proofs.Firsts.{FirstKept, first_by}
 
@@ -152,6 +152,7 @@ made_by false old new ps s n command kind told turn h one within idle next there
 pub record HubBegun (old : HubState) (core : CoreState) (ps : List Progress) (s n : ℕ) (first : First) : Type 0 where
   pub keeps : IsHub (recorded old core s n first) (moved old ps s n)
   pub made : (turn : Turn) → turn ≡ (if first.goes_on then turns.More else turns.Ended (length old.journal)) → MakesTurn old s (recorded old core s n first) turn
+  pub past : is_past_moment (seat_of core s).job ≡ first.goes_on
 
 pub begun_hub : (old : HubState) (core : CoreState) (ps : List Progress) (s n : ℕ) (command : Command) (first : First) → BeginsBy old.core s command core first → IsHub old ps → 1 ≤ s → s ≤ length old.script.sessions → (seat_of old.core s).job ≡ jobs.Idle →
   n ≡ (told_of (run_of old.script old.journal) s).begun + 1 → command_at old.script s n ≡ Some command → OthersStay old.core s core → HubBegun old core ps s n first
@@ -169,7 +170,13 @@ begun_hub old core ps s n command first begins h one within idle next there othe
       made = λ turn is. made_by first.goes_on old new ps s n command first.kind told turn h one within idle next there others refl refl refl told_is k.past k.more
         (named_last new (moved old ps s n) s (length old.journal) keeps one within (ap (λ (p : Progress). p.entry) (progress_here ps s _ one (omega (arith, h.places)))) (omega (arith, here, next)))
         is;
+      past = k.past;
     }
+
+-- a turn after which the command goes on
+pub goes_on_by : (b : Bool) (turn : Turn) (at : ℕ) → turn ≡ (if b then turns.More else turns.Ended at) → turn ≡ turns.More → b ≡ true
+goes_on_by true turn at is more = refl
+goes_on_by false turn at is more = absurd (cc)
 
 -- the room that a journal and its lines take
 pub record Fits (script : Script) (journal : List JournalEntry) (kept : List KeptLine) : Type 0 where
@@ -234,3 +241,7 @@ room_left old core ps s n first b one within h next =
       number = omega (arith, own.within, here, one_in_sum old.script.sessions (s - 1), room.few);
       few = room.few;
     }
+
+-- a hub's sessions each have a place
+pub places_count : (hub : HubState) (ps : List Progress) → IsHub hub ps → length (places_in hub) ≡ length hub.script.sessions
+places_count hub ps h = length-places (run_of hub.script hub.journal).told hub.core.seats (h.told ∙ sym h.seats) ∙ h.told

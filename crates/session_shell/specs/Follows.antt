@@ -1,5 +1,5 @@
 -- How a journal follows its script's schedule, and then the order in which the sessions finish.
-use Rattle.std.specs.Prelude.{◌≡◌, ◌≢◌, ℕ, ◌+◌, zero, suc, Bool, true, false, List, [], ◌∷◌, ◌++◌, length, replicate}
+use Rattle.std.specs.Prelude.{◌≡◌, ◌≢◌, ◌<◌, ℕ, ◌+◌, slice_index_or, zero, suc, Bool, true, false, List, [], ◌∷◌, ◌++◌, length, replicate}
 use Rattle.std.specs.List.{flat_map, range_with_len}
 use Rattle.command_set.specs.Journals.{first_run}
 use Rattle.command_set.specs.declared.Script.{Script}
@@ -7,7 +7,7 @@ use Rattle.command_set.specs.declared.Item.{Item}
 use Rattle.command_set.specs.declared.Item.TheVariants.{Once, Times, Whole}
 use Rattle.command_set.specs.declared.Passage.{Passage}
 use Rattle.command_set.specs.declared.JournalEntry.{JournalEntry}
-use Rattle.session_shell.specs.Hubs.{HubState, commands_of}
+use Rattle.session_shell.specs.Hubs.{HubState, IsSessionOf, commands_of}
 use Rattle.session_shell.specs.Turns.{TurnMade, Place, More, Nothing, at_start, place_of, after_turns, entries_of, AreTurns, Ran, places_in}
 
 -- all turns are of this session
@@ -53,9 +53,13 @@ abbrev pub repeated : {X : Type 0} → ℕ → List X → List X
 repeated zero xs = []
 repeated (suc n) xs = xs ++ repeated n xs
 
--- the items of a schedule, each passage so often as it says
+-- the items of a passage, so often as it says
+abbrev pub items_in : Passage → List Item
+items_in passage = repeated passage.count passage.items
+
+-- the items of a schedule
 abbrev pub items_of : List Passage → List Item
-items_of passages = flat_map (λ passage. repeated passage.count passage.items) passages
+items_of passages = flat_map items_in passages
 
 -- a session whose command is under way takes turns until it has ended
 abbrev pub EndsBy : Bool → ℕ → List TurnMade → Type 0
@@ -116,14 +120,62 @@ pub record Follows (script : Script) (journal : List JournalEntry) : Type 0 wher
   pub schedule : AreOfItems (items_of script.schedule) scheduled
   pub finish : Finishes script (after_turns (first_places script) scheduled) finishing
 
--- a hub has gone through its script's schedule
-pub record RunsSchedule (old new : HubState) : Type 0 where
+-- a hub has gone through these items
+pub record RunsItems (old new : HubState) (items : List Item) : Type 0 where
   pub turns : List TurnMade
   pub ran : Ran old new turns
-  pub items : AreOfItems (items_of old.script.schedule) turns
+  pub each : AreOfItems items turns
+
+-- a hub has gone through one item
+pub record RunsItem (old new : HubState) (item : Item) : Type 0 where
+  pub turns : List TurnMade
+  pub ran : Ran old new turns
+  pub own : AreOfItem item turns
+
+-- a passage of a script, from 0
+abbrev pub passage_at : Script → ℕ → Passage
+passage_at script i = slice_index_or script.schedule i (record { count = 0; items = [] })
 
 -- a hub has finished
 pub record RunsFinish (old new : HubState) : Type 0 where
   pub turns : List TurnMade
   pub ran : Ran old new turns
   pub finish : Finishes old.script (places_in old) turns
+
+-- nothing is under way
+pub record IsIdle (hub : HubState) : Type 0 where
+  pub each : (s : ℕ) → IsSessionOf hub.script s → (place_of (places_in hub) s).under_way ≡ false
+
+-- a session has taken turns up to the first after which no command goes on; it began its next command if it had one left and none under way
+pub record RunsWhole (old : HubState) (s : ℕ) (new : HubState) : Type 0 where
+  pub turns : List TurnMade
+  pub ran : Ran old new turns
+  pub whole : IsWhole s turns
+  pub ended : (place_of (places_in new) s).under_way ≡ false
+  pub begun : (place_of (places_in old) s).under_way ≡ false → (place_of (places_in old) s).begun < length (commands_of old.script s) → ((place_of (places_in new) s).begun ≡ (place_of (places_in old) s).begun + 1) × NoneRests turns
+
+-- a session has ended its command under way
+pub record EndsSession (old : HubState) (s : ℕ) (new : HubState) : Type 0 where
+  pub turns : List TurnMade
+  pub ran : Ran old new turns
+  pub ends : EndsFor old.script (places_in old) s turns
+  pub own : AllOf s turns
+  pub ended : (place_of (places_in new) s).under_way ≡ false
+
+-- all sessions have ended their commands under way
+pub record RunsEnding (old new : HubState) : Type 0 where
+  pub turns : List TurnMade
+  pub ran : Ran old new turns
+  pub ends : EachInTurn (EndsFor old.script) (places_in old) (sessions_of old.script) turns
+
+-- a session has taken turns until it had no command left
+pub record EmptiesSession (old : HubState) (s : ℕ) (new : HubState) : Type 0 where
+  pub turns : List TurnMade
+  pub ran : Ran old new turns
+  pub empties : Empties old.script (places_in old) s turns
+
+-- all sessions have
+pub record RunsEmptying (old new : HubState) : Type 0 where
+  pub turns : List TurnMade
+  pub ran : Ran old new turns
+  pub empties : EachInTurn (Empties old.script) (places_in old) (sessions_of old.script) turns

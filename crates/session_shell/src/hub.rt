@@ -1,7 +1,7 @@
 // A hub: a script, the store that runs it, and the journal of what came of its commands.
-ghost use Rattle.std.specs.Prelude.{◌≡◌, ◌+◌, ◌++◌, ◌-◌, ◌*◌, ◌<◌, ◌≤◌, ◌∷◌, ◌^◌, [], length, IfOk, IsTrue, None, Some, true, option_and_then, replicate, slice_get, slice_index_or, slice_set, vec_capacity, vec_len, if◌then◌else◌};
+ghost use Rattle.std.specs.Prelude.{◌≡◌, ◌+◌, ◌++◌, ◌-◌, ◌*◌, ◌<◌, ◌≤◌, ◌∷◌, ◌^◌, [], length, IfOk, IsTrue, MatchBool, None, Some, true, option_and_then, replicate, slice_get, slice_index_or, slice_set, vec_capacity, vec_len, if◌then◌else◌};
 ghost use Rattle.std.specs.Option.{option_copied, option_map};
-ghost use Rattle.command_set.specs.Journals.{command_at, is_legal};
+ghost use Rattle.command_set.specs.Journals.{command_at, is_complete, is_legal};
 ghost use Rattle.script_text.specs.Scripts.{command_count};
 ghost use Rattle.toast_core.specs.State.{seat_of};
 ghost use Rattle.toast_core.specs.Events.{left};
@@ -9,7 +9,7 @@ ghost use Rattle.toast_core.specs.Stands.{is_past_moment};
 ghost use Rattle.session_shell.specs.Lines.{no_line, with_reply};
 
 use crate::steps::{First, Later, first_step, later_step};
-use command_set::{Command, JournalEntry, Kind, Reply, SchemaList, Script};
+use command_set::{Command, Item, JournalEntry, Kind, Reply, SchemaList, Script};
 use std::alloc::{AllocError, Global};
 use std::marker::Model;
 use toast_core::parts::Job;
@@ -71,14 +71,14 @@ impl Model for Hub {
 }
 
 impl Hub {
-    ghost use Rattle.session_shell.specs.Hubs.{IsScript, IsSessionOf};
-    ghost use Rattle.session_shell.specs.Turns.{MakesTurn, at_start, places_in};
+    ghost use Rattle.session_shell.specs.Hubs.{IsScript, IsSessionOf, commands_of, session_in};
+    ghost use Rattle.session_shell.specs.Turns.{MakesTurn, at_start, place_of, places_in};
+    ghost use Rattle.session_shell.specs.Follows.{EmptiesSession, EndsSession, IsIdle, RunsEmptying, RunsEnding, RunsFinish, RunsItem, RunsItems, RunsWhole, items_in, items_of, passage_at};
 
     /// A hub whose sessions have begun nothing.
     ///
     /// It takes the memory for its journal and its replies now, so that what comes of a command is
     /// recorded where there is no memory left.
-    #[tactic(none)]
     pub fn new(alloc: Global, script: Script) -> Result<Hub, AllocError>
         requires { IsScript script }
         ensures script { IfOk result (λ hub. hub.script ≡ script) }
@@ -115,26 +115,26 @@ impl Hub {
     /// made.
     ///
     /// Want of memory ends the command, as the journal then tells.
-    #[tactic(none)]
     pub fn turn(&mut self, session: u16) -> Turn
         requires { IsSessionOf self.old.script session }
         ensures made { MakesTurn self.old session self.new result }
         ensures legal { IsTrue (is_legal self.new.script self.new.journal) }
         ensures left { is_past_moment (seat_of self.old.core session).job ≡ true → result ≡ Turn.More → left self.new.core session < left self.old.core session }
+        ensures under_way { result ≡ Turn.More → is_past_moment (seat_of self.new.core session).job ≡ true }
     {
         match self.core.busy_with(session) {
             Under::Nothing => self.begin_next(session),
-            Under::Data | Under::Upkeep => self.go_on(session),
+            _ => self.go_on(session),
         }
     }
 
     // A turn of a session with no command under way.
-    #[tactic(none)]
     fn begin_next(&mut self, session: u16) -> Turn
         requires session { IsSessionOf self.old.script session }
         requires idle { (seat_of self.old.core session).job ≡ Job.Idle }
         ensures made { MakesTurn self.old session self.new result }
         ensures legal { IsTrue (is_legal self.new.script self.new.journal) }
+        ensures under_way { result ≡ Turn.More → is_past_moment (seat_of self.new.core session).job ≡ true }
     {
         let at = (session - 1) as usize;
         let begun = self.progress[at].begun;
@@ -156,13 +156,13 @@ impl Hub {
     }
 
     // A turn of a session whose command is under way.
-    #[tactic(none)]
     fn go_on(&mut self, session: u16) -> Turn
         requires session { IsSessionOf self.old.script session }
         requires under_way { is_past_moment (seat_of self.old.core session).job ≡ true }
         ensures made { MakesTurn self.old session self.new result }
         ensures legal { IsTrue (is_legal self.new.script self.new.journal) }
         ensures left { result ≡ Turn.More → left self.new.core session < left self.old.core session }
+        ensures under_way { result ≡ Turn.More → is_past_moment (seat_of self.new.core session).job ≡ true }
     {
         let at = (session - 1) as usize;
         let Progress { begun, entry, line } = self.progress[at];
@@ -189,6 +189,166 @@ impl Hub {
         }
     }
 
+    /// Goes through the script's schedule, item by item.
+    pub fn run_schedule(&mut self)
+        ensures ran { RunsItems self.old self.new (items_of self.old.script.schedule) }
+    {
+        for passage in 0..self.script.schedule.len() {
+            self.run_passage(passage);
+        }
+    }
+
+    // A passage of the schedule, so often as it says.
+    fn run_passage(&mut self, passage: usize)
+        requires { passage < length self.old.script.schedule }
+        ensures { RunsItems self.old self.new (items_in (passage_at self.old.script passage)) }
+    {
+        for _round in 0..self.rounds_of(passage) {
+            self.run_items(passage);
+        }
+    }
+
+    // The items of a passage, once.
+    fn run_items(&mut self, passage: usize)
+        requires { passage < length self.old.script.schedule }
+        ensures { RunsItems self.old self.new (passage_at self.old.script passage).items }
+    {
+        for at in 0..self.items_of(passage) {
+            let item = self.item_at(passage, at);
+            self.run_item(item);
+        }
+    }
+
+    // How often the items of a passage are gone through.
+    fn rounds_of(&self, passage: usize) -> u32
+        requires { passage < length self.now.script.schedule }
+        ensures { result ≡ (passage_at self.now.script passage).count }
+    {
+        self.script.schedule.as_slice()[passage].count
+    }
+
+    // The number of a passage's items.
+    fn items_of(&self, passage: usize) -> usize
+        requires { passage < length self.now.script.schedule }
+        ensures { result ≡ length (passage_at self.now.script passage).items }
+    {
+        self.script.schedule.as_slice()[passage].items.len()
+    }
+
+    // An item of a passage.
+    fn item_at(&self, passage: usize, at: usize) -> Item
+        requires passage { passage < length self.now.script.schedule }
+        requires item { at < length (passage_at self.now.script passage).items }
+        ensures item { slice_get (passage_at self.now.script passage).items at ≡ Some result }
+        ensures session { IsSessionOf self.now.script (session_in result) }
+    {
+        self.script.schedule.as_slice()[passage].items.as_slice()[at]
+    }
+
+    // The turns of an item.
+    fn run_item(&mut self, item: Item)
+        requires { IsSessionOf self.old.script (session_in item) }
+        ensures { RunsItem self.old self.new item }
+    {
+        match item {
+            Item::Once { session } => {
+                self.turn(session);
+            }
+            Item::Times { session, count } => self.turn_times(session, count),
+            Item::Whole { session } => self.turn_until_ended(session),
+        }
+    }
+
+    // So many turns of a session.
+    fn turn_times(&mut self, session: u16, count: u32)
+        requires { IsSessionOf self.old.script session }
+        ensures { RunsItem self.old self.new (Item.Times session count) }
+    {
+        for _turn in 0..count {
+            self.turn(session);
+        }
+    }
+
+    // Turns of a session until a command of it has ended, or none is left.
+    fn turn_until_ended(&mut self, session: u16)
+        requires { IsSessionOf self.old.script session }
+        ensures { RunsWhole self.old session self.new }
+    {
+        let _ = &self.core;
+        let mut turn = self.turn(session);
+        while let Turn::More = turn {
+            turn = self.turn(session);
+        }
+    }
+
+    /// Finishes the commands of all sessions: each session in ascending order ends its command under way,
+    /// and then each takes turns until it has no command left.
+    pub fn finish(&mut self)
+        ensures ran { RunsFinish self.old self.new }
+        ensures legal { IsTrue (is_legal self.new.script self.new.journal) }
+        ensures complete { IsTrue (is_complete self.new.script self.new.journal) }
+        ensures idle { IsIdle self.new }
+    {
+        self.end_all();
+        self.empty_all();
+    }
+
+    // Each session ends its command under way. No upkeep is.
+    fn end_all(&mut self)
+        ensures ran { RunsEnding self.old self.new }
+        ensures idle { IsIdle self.new }
+    {
+        for at in 0..self.script.sessions.len() {
+            self.end_session((at + 1) as u16);
+        }
+    }
+
+    // A session ends its command under way, if there is one.
+    fn end_session(&mut self, session: u16)
+        requires { IsSessionOf self.old.script session }
+        ensures { EndsSession self.old session self.new }
+    {
+        if self.core.busy_with(session) != Under::Nothing {
+            self.turn_until_ended(session);
+        }
+    }
+
+    // Each session takes turns until it has no command left.
+    fn empty_all(&mut self)
+        requires { IsIdle self.old }
+        ensures ran { RunsEmptying self.old self.new }
+        ensures idle { IsIdle self.new }
+        ensures complete { IsTrue (is_complete self.new.script self.new.journal) }
+        ensures legal { IsTrue (is_legal self.new.script self.new.journal) }
+    {
+        for at in 0..self.script.sessions.len() {
+            self.empty_session((at + 1) as u16);
+        }
+    }
+
+    // A session takes turns until it has no command left.
+    fn empty_session(&mut self, session: u16)
+        requires session { IsSessionOf self.old.script session }
+        requires idle { (place_of (places_in self.old) session).under_way ≡ false }
+        ensures { EmptiesSession self.old session self.new }
+    {
+        while self.has_command_left(session) {
+            self.turn_until_ended(session);
+        }
+    }
+
+    // Whether a session has a command left.
+    fn has_command_left(&self, session: u16) -> bool
+        requires { IsSessionOf self.now.script session }
+        ensures { MatchBool result
+            ((place_of (places_in self.now) session).begun < length (commands_of self.now.script session))
+            ((place_of (places_in self.now) session).begun ≡ length (commands_of self.now.script session)) }
+    {
+        let at = (session - 1) as usize;
+        let begun = self.progress[at].begun as usize;
+        begun < self.script.sessions.as_slice()[at].len()
+    }
+
     /// The journal so far.
     pub fn journal(&self) -> &JournalList
         ensures { result.now.items ≡ self.now.journal }
@@ -209,12 +369,11 @@ fn count_commands(script: &Script) -> usize
     requires { command_count script.now ≤ 10000 }
     ensures { result ≡ command_count script.now }
 {
-    script
-        .sessions
-        .as_slice()
-        .iter()
-        .map(|session| session.len())
-        .sum()
+    let mut count = 0;
+    for session in script.sessions.as_slice() {
+        count += session.len();
+    }
+    count
 }
 
 // The same tables.

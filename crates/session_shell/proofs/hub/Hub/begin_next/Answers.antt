@@ -7,7 +7,7 @@ use Rattle.command_set.specs.Journals.{run_of}
 use Rattle.session_shell.specs.Hubs.{replies_of}
 use Rattle.session_shell.specs.declared.hub.Turn.TheVariants as turns
 use Rattle.session_shell.specs.contracts.hub.Hub.{the_view}
-use Rattle.session_shell.proofs.Made.{begun_hub, begun_is, begun_made, begun_next, fits, rests, room_left}
+use Rattle.session_shell.proofs.Made.{begun_hub, begun_is, begun_made, begun_next, fits, goes_on_by, rests, room_left}
 use Rattle.session_shell.proofs.hub.Hub.begin_next.Goals as goal
 
 pub overflow_sub-at : goal.overflow_sub-at
@@ -139,3 +139,12 @@ returns-clause-legal c =
     let next = begun_next old ps c.args.session c.index.result.now c.self.invariant.0 q.session.from_one q.session.within c.index.ensures in
     let b = begun_hub old c.first_step-first.new.core ps c.args.session (c.index.result.now.begun + 1) c.in-Some.command.now c.first_step-first.result c.first_step-first.ensures.begins c.self.invariant.0 q.session.from_one q.session.within q.idle next (sym c.in-Some.ensures) c.first_step-first.ensures.apart in
     (begun_is old c.first_step-first.new.core ps c.record_first.new.progress.items c.args.session (c.index.result.now.begun + 1) c.first_step-first.result c.record_first.new.journal.items c.record_first.new.kept.items b c.record_first.ensures.journal c.record_first.ensures.kept c.record_first.ensures.progress).legal
+
+pub returns-clause-under_way : goal.returns-clause-under_way
+returns-clause-under_way c =
+    let q = rw (← c.self.view_is) at c.requires in
+    let old = the_view c.self.inside in
+    let ps = c.self.inside.progress.items in
+    let next = begun_next old ps c.args.session c.index.result.now c.self.invariant.0 q.session.from_one q.session.within c.index.ensures in
+    let b = begun_hub old c.first_step-first.new.core ps c.args.session (c.index.result.now.begun + 1) c.in-Some.command.now c.first_step-first.result c.first_step-first.ensures.begins c.self.invariant.0 q.session.from_one q.session.within q.idle next (sym c.in-Some.ensures) c.first_step-first.ensures.apart in
+    λ more. b.past ∙ goes_on_by c.first_step-first.result.goes_on c.turn_after.result c.len-entry.result c.turn_after.ensures more

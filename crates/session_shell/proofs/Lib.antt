@@ -10,3 +10,4 @@ pub mod News
 pub mod Counts
 pub mod Turning
 pub mod Whole
+pub mod Finishing

@@ -52,7 +52,7 @@ ran_on a b c ts us h k = record {
   places = k.places ∙ ap (λ (ps : List Place). after_turns ps us) h.places ∙ sym (after-append (places_in a) ts us);
 }
 
-all_of-append : (s : ℕ) (ts us : List TurnMade) → AllOf s ts → AllOf s us → AllOf s (ts ++ us)
+pub all_of-append : (s : ℕ) (ts us : List TurnMade) → AllOf s ts → AllOf s us → AllOf s (ts ++ us)
 all_of-append s [] us h k = k
 all_of-append s (t ∷ ts) us h k = (h.0, all_of-append s ts us h.1 k)
 

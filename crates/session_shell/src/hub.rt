@@ -1,5 +1,5 @@
 // A hub: a script, the store that runs it, and the journal of what came of its commands.
-ghost use Rattle.std.specs.Prelude.{◌≡◌, ◌+◌, ◌++◌, ◌-◌, ◌*◌, ◌<◌, ◌≤◌, ◌∷◌, ◌^◌, [], length, IfOk, IsTrue, MatchBool, None, Some, true, option_and_then, replicate, slice_get, slice_index_or, slice_set, vec_capacity, vec_len, if◌then◌else◌};
+ghost use Rattle.std.specs.Prelude.{◌≡◌, ◌+◌, ◌++◌, ◌-◌, ◌*◌, ◌<◌, ◌≤◌, ◌∷◌, ◌^◌, [], false, length, IfOk, IsTrue, MatchBool, None, Some, true, option_and_then, replicate, slice_get, slice_index_or, slice_set, vec_capacity, vec_len, if◌then◌else◌};
 ghost use Rattle.std.specs.Option.{option_copied, option_map};
 ghost use Rattle.command_set.specs.Journals.{command_at, is_complete, is_legal};
 ghost use Rattle.script_text.specs.Scripts.{command_count};
@@ -191,7 +191,7 @@ impl Hub {
 
     /// Goes through the script's schedule, item by item.
     pub fn run_schedule(&mut self)
-        ensures ran { RunsItems self.old self.new (items_of self.old.script.schedule) }
+        ensures { RunsItems self.old self.new (items_of self.old.script.schedule) }
     {
         for passage in 0..self.script.schedule.len() {
             self.run_passage(passage);
@@ -299,7 +299,8 @@ impl Hub {
         ensures idle { IsIdle self.new }
     {
         for at in 0..self.script.sessions.len() {
-            self.end_session((at + 1) as u16);
+            let session = (at + 1) as u16;
+            self.end_session(session);
         }
     }
 
@@ -308,8 +309,9 @@ impl Hub {
         requires { IsSessionOf self.old.script session }
         ensures { EndsSession self.old session self.new }
     {
-        if self.core.busy_with(session) != Under::Nothing {
-            self.turn_until_ended(session);
+        match self.core.busy_with(session) {
+            Under::Nothing => {}
+            _ => self.turn_until_ended(session),
         }
     }
 
@@ -322,8 +324,10 @@ impl Hub {
         ensures legal { IsTrue (is_legal self.new.script self.new.journal) }
     {
         for at in 0..self.script.sessions.len() {
-            self.empty_session((at + 1) as u16);
+            let session = (at + 1) as u16;
+            self.empty_session(session);
         }
+        let _ = &self.journal;
     }
 
     // A session takes turns until it has no command left.
@@ -332,7 +336,7 @@ impl Hub {
         requires idle { (place_of (places_in self.old) session).under_way ≡ false }
         ensures { EmptiesSession self.old session self.new }
     {
-        while self.has_command_left(session) {
+        'commands: while self.has_command_left(session) {
             self.turn_until_ended(session);
         }
     }
@@ -351,7 +355,8 @@ impl Hub {
 
     /// The journal so far.
     pub fn journal(&self) -> &JournalList
-        ensures { result.now.items ≡ self.now.journal }
+        ensures entries { result.now.items ≡ self.now.journal }
+        ensures legal { IsTrue (is_legal self.now.script self.now.journal) }
     {
         &self.journal
     }

@@ -78,9 +78,13 @@ range_to i =
 each-push : (R : List Place → ℕ → List TurnMade → Type 0) (places : List Place) (ss : List ℕ) (s : ℕ) (ts us : List TurnMade) → EachInTurn R places ss ts → R (after_turns places ts) s us → EachInTurn R places (ss ++ s ∷ []) (ts ++ us)
 each-push R places [] s ts us h r =
     (us, [], ap (λ (vs : List TurnMade). vs ++ us) h ∙ sym (append-nil us), subst (λ (vs : List TurnMade). R (after_turns places vs) s us) h r, refl)
-each-push R places (x ∷ ss) s ts us h r =
-    (h.0, h.1 ++ us, ap (λ (vs : List TurnMade). vs ++ us) h.2 ∙ append_assoc h.0 h.1 us, h.3,
-      each-push R (after_turns places h.0) ss s h.1 us h.4 (subst (λ (ps : List Place). R ps s us) (ap (after_turns places) h.2 ∙ after-append places h.0 h.1) r))
+each-push R places (x ∷ ss) s ts us h r = (
+  h.0,
+  h.1 ++ us,
+  ap (λ (vs : List TurnMade). vs ++ us) h.2 ∙ append_assoc h.0 h.1 us,
+  h.3,
+  each-push R (after_turns places h.0) ss s h.1 us h.4 (subst (λ (ps : List Place). R ps s us) (ap (after_turns places) h.2 ∙ after-append places h.0 h.1) r),
+)
 
 -- the first sessions have ended their commands under way
 pub record EndedTo (old now : HubState) (i : ℕ) : Type 0 where
@@ -199,8 +203,8 @@ all_from tolds k (session ∷ sessions) each =
     let zeroth : k + 0 ≡ k = omega arith in
     let first : has_ended (unwrap_or (slice_get tolds k) untold) (length session) ≡ true = subst (λ (n : ℕ). has_ended (unwrap_or (slice_get tolds n) untold) (length session) ≡ true) zeroth (each 0 (omega arith)) in
     and_intro _ _ first (all_from tolds (k + 1) sessions (λ i within.
-      let next : k + suc i ≡ k + 1 + i = omega arith in
-      subst (λ (n : ℕ). has_ended (unwrap_or (slice_get tolds n) untold) (length (unwrap_or (slice_get sessions i) [])) ≡ true) next (each (suc i) (omega (arith, within)))))
+    let next : k + suc i ≡ k + 1 + i = omega arith in
+    subst (λ (n : ℕ). has_ended (unwrap_or (slice_get tolds n) untold) (length (unwrap_or (slice_get sessions i) [])) ≡ true) next (each (suc i) (omega (arith, within)))))
 
 ended_told : (told : Told) (n : ℕ) → told.begun ≡ n → is_under_way told ≡ false → has_ended told n ≡ true
 ended_told told n begun quiet = and_intro (told.begun == n) (not (is_under_way told)) (eq-eqb told.begun n begun) (ap not quiet)
@@ -210,13 +214,13 @@ pub complete : (hub : HubState) (ps : List Progress) → IsHub hub ps → ((j : 
 complete hub ps h over =
     let run = run_of hub.script hub.journal in
     all_from run.told 0 hub.script.sessions (λ i within.
-      let at : i + 1 - 1 ≡ i = omega arith in
-      let from : 0 + i ≡ i = omega arith in
-      let place = place_in_is hub.script hub.core hub.journal hub.kept ps run (i + 1) h (omega arith) (omega (arith, within)) in
-      let o = over (i + 1) (omega arith) (omega (arith, within)) in
-      let ended : has_ended (told_of run (i + 1)) (length (commands_of hub.script (i + 1))) ≡ true = ended_told (told_of run (i + 1)) _ (ap (λ (p : Place). p.begun) (sym place) ∙ o.begun) (h.each (i + 1) (omega arith) (omega (arith, within))).quiet in
-      subst (λ (m : ℕ). has_ended (unwrap_or (slice_get run.told m) untold) (length (unwrap_or (slice_get hub.script.sessions i) [])) ≡ true) (sym from)
-        (subst (λ (m : ℕ). has_ended (unwrap_or (slice_get run.told m) untold) (length (unwrap_or (slice_get hub.script.sessions m) [])) ≡ true) at ended))
+    let at : i + 1 - 1 ≡ i = omega arith in
+    let from : 0 + i ≡ i = omega arith in
+    let place = place_in_is hub.script hub.core hub.journal hub.kept ps run (i + 1) h (omega arith) (omega (arith, within)) in
+    let o = over (i + 1) (omega arith) (omega (arith, within)) in
+    let ended : has_ended (told_of run (i + 1)) (length (commands_of hub.script (i + 1))) ≡ true = ended_told (told_of run (i + 1)) _ (ap (λ (p : Place). p.begun) (sym place) ∙ o.begun) (h.each (i + 1) (omega arith) (omega (arith, within))).quiet in
+    subst (λ (m : ℕ). has_ended (unwrap_or (slice_get run.told m) untold) (length (unwrap_or (slice_get hub.script.sessions i) [])) ≡ true) (sym from)
+    (subst (λ (m : ℕ). has_ended (unwrap_or (slice_get run.told m) untold) (length (unwrap_or (slice_get hub.script.sessions m) [])) ≡ true) at ended))
 
 pub over_all : (old now : HubState) (i : ℕ) → EmptiedAll old now i → i ≡ length old.script.sessions → (j : ℕ) → 1 ≤ j → j ≤ length now.script.sessions → IsOver now.script (places_in now) j
 over_all old now i h all j one within = subst (λ (script : Script). IsOver script (places_in now) j) (sym h.ran.script) (h.over j one (omega (arith, within, all, ap (λ (script : Script). length script.sessions) h.ran.script)))
@@ -232,7 +236,7 @@ finishes old mid new a b = record {
     is = refl;
     ends = a.ends;
     empties = subst (λ (ps : List Place). EachInTurn (Empties old.script) ps (range_with_len 1 (length old.script.sessions)) b.turns) a.ran.places
-      (subst (λ (script : Script). EachInTurn (Empties script) (places_in mid) (range_with_len 1 (length script.sessions)) b.turns) a.ran.script b.empties);
+        (subst (λ (script : Script). EachInTurn (Empties script) (places_in mid) (range_with_len 1 (length script.sessions)) b.turns) a.ran.script b.empties);
   };
 }
 
@@ -245,7 +249,7 @@ match_lt a b P Q h k = match_by (nat_lt a b) a b P Q refl h k
 
 -- whether a session has a command left, as it was read
 pub left_by : (hub : HubState) (ps : List Progress) (s n : ℕ) (x : Progress) (session : List Command) → IsHub hub ps → 1 ≤ s → s ≤ length hub.script.sessions → x ≡ get_or ps (s - 1) x → session ≡ get_or hub.script.sessions (s - 1) session → n ≡ length session →
-  MatchBool (nat_lt x.begun n) ((place_of (places_in hub) s).begun < length (commands_of hub.script s)) ((place_of (places_in hub) s).begun ≡ length (commands_of hub.script s))
+    MatchBool (nat_lt x.begun n) ((place_of (places_in hub) s).begun < length (commands_of hub.script s)) ((place_of (places_in hub) s).begun ≡ length (commands_of hub.script s))
 left_by hub ps s n x session h one within is session_is n_is =
     let begun : x.begun ≡ (place_of (places_in hub) s).begun = number_is hub ps s x h one within is ∙ sym (ap (λ (p : Place). p.begun) (place_in_is hub.script hub.core hub.journal hub.kept ps (run_of hub.script hub.journal) s h one within)) in
     let told : (place_of (places_in hub) s).begun ≡ (told_of (run_of hub.script hub.journal) s).begun = ap (λ (p : Place). p.begun) (place_in_is hub.script hub.core hub.journal hub.kept ps (run_of hub.script hub.journal) s h one within) in

@@ -99,12 +99,12 @@ session_stays script journal lines e line t told job place other other' h = reco
 
 -- a session's own first entry and line
 session_begins : (script : Script) (journal : List JournalEntry) (lines : List Line) (s n begun : ℕ) (kind : Kind) (reply : Option Reply) (said : Reply) (job : Job) →
-  n ≡ begun + 1 → n ≤ length (commands_of script s) →
-  ((k : ℕ) (l : Line) → slice_get lines k ≡ Some l → l.session ≡ s → l.number ≤ begun) →
-  (kind ≡ kinds.Run → reply ≡ Some said) →
-  is_under_way (record { begun = n; last = Some kind; reply = reply }) ≡ false →
-  IsBusyBy script s (record { begun = n; last = Some kind; reply = reply }) job →
-  SessionIs script (journal ++ (record { session = s; number = n; kind = kind }) ∷ []) (lines ++ (record { session = s; number = n; reply = said }) ∷ []) s (record { begun = n; last = Some kind; reply = reply }) job (record { begun = n; entry = length journal; line = length lines })
+    n ≡ begun + 1 → n ≤ length (commands_of script s) →
+    ((k : ℕ) (l : Line) → slice_get lines k ≡ Some l → l.session ≡ s → l.number ≤ begun) →
+    (kind ≡ kinds.Run → reply ≡ Some said) →
+    is_under_way (record { begun = n; last = Some kind; reply = reply }) ≡ false →
+    IsBusyBy script s (record { begun = n; last = Some kind; reply = reply }) job →
+    SessionIs script (journal ++ (record { session = s; number = n; kind = kind }) ∷ []) (lines ++ (record { session = s; number = n; reply = said }) ∷ []) s (record { begun = n; last = Some kind; reply = reply }) job (record { begun = n; entry = length journal; line = length lines })
 session_begins script journal lines s n begun kind reply said job next within below answered quiet busy =
     let e : JournalEntry = record { session = s; number = n; kind = kind } in
     let line : Line = record { session = s; number = n; reply = said } in
@@ -138,15 +138,15 @@ number_within script s n command one there = omega (arith, slice_get_within (com
 
 -- one more first entry
 pub keeps_first : (script : Script) (core core' : CoreState) (journal : List JournalEntry) (kept : List KeptLine) (ps : List Progress) (run : Run) (s n : ℕ) (kind : Kind) (command : Command) (reply : Option Reply) (said : Reply) (plain : Plain) (kept_reply : Option Reply) →
-  Keeps script core journal kept ps run → 1 ≤ s → s ≤ length script.sessions → (seat_of core s).job ≡ jobs.Idle →
-  n ≡ (told_of run s).begun + 1 → command_at script s n ≡ Some command →
-  is_legal script (journal ++ (record { session = s; number = n; kind = kind }) ∷ []) ≡ true →
-  Stands core' plain (slice_set (replies_of run) (s - 1) reply) → OthersStay core s core' →
-  (kind ≡ kinds.Run → reply ≡ Some said) →
-  is_under_way (record { begun = n; last = Some kind; reply = reply }) ≡ false →
-  IsBusyBy script s (record { begun = n; last = Some kind; reply = reply }) (seat_of core' s).job →
-  kept_reply ≡ (kept_by script n (seat_of core' s).job (record { session = s; number = n; reply = said })).reply →
-  Keeps script core' (journal ++ (record { session = s; number = n; kind = kind }) ∷ []) (kept ++ (record { session = s; number = n; reply = kept_reply }) ∷ []) (slice_set ps (s - 1) (record { begun = n; entry = length journal; line = length kept }))
+    Keeps script core journal kept ps run → 1 ≤ s → s ≤ length script.sessions → (seat_of core s).job ≡ jobs.Idle →
+    n ≡ (told_of run s).begun + 1 → command_at script s n ≡ Some command →
+    is_legal script (journal ++ (record { session = s; number = n; kind = kind }) ∷ []) ≡ true →
+    Stands core' plain (slice_set (replies_of run) (s - 1) reply) → OthersStay core s core' →
+    (kind ≡ kinds.Run → reply ≡ Some said) →
+    is_under_way (record { begun = n; last = Some kind; reply = reply }) ≡ false →
+    IsBusyBy script s (record { begun = n; last = Some kind; reply = reply }) (seat_of core' s).job →
+    kept_reply ≡ (kept_by script n (seat_of core' s).job (record { session = s; number = n; reply = said })).reply →
+    Keeps script core' (journal ++ (record { session = s; number = n; kind = kind }) ∷ []) (kept ++ (record { session = s; number = n; reply = kept_reply }) ∷ []) (slice_set ps (s - 1) (record { begun = n; entry = length journal; line = length kept }))
     (told_more run (record { session = s; number = n; kind = kind }) reply plain (run.lines ++ (record { session = s; number = n; reply = said }) ∷ []))
 keeps_first script core core' journal kept ps run s n kind command reply said plain kept_reply h one within idle next there legal stands others answered quiet busy said_is =
     let e : JournalEntry = record { session = s; number = n; kind = kind } in
@@ -161,9 +161,9 @@ keeps_first script core core' journal kept ps run s n kind command reply said pl
       | inl same ↦
           said_idle script (told_of run l.session).begun (seat_of core l.session).job l (ap (λ (t : ℕ). (seat_of core t).job) same ∙ idle)
           ∙ sym (said_before script (told_of run' l.session).begun (seat_of core' l.session).job l (λ number.
-            let b : (told_of run' l.session).begun ≡ n = ap (λ (t : ℕ). (told_of run' t).begun) same ∙ ap (λ (t : Told). t.begun) here in
-            let below = own.below k l e same in
-            omega (arith, b, below, number, next)))
+          let b : (told_of run' l.session).begun ≡ n = ap (λ (t : ℕ). (told_of run' t).begun) same ∙ ap (λ (t : Told). t.begun) here in
+          let below = own.below k l e same in
+          omega (arith, b, below, number, next)))
       | inr other ↦
           ap (λ (t : Told). kept_by script t.begun (seat_of core l.session).job l) (sym (told_there run.told s l.session told one (h.from_one k l e) other))
           ∙ ap (λ (seat : Seat). kept_by script (told_of run' l.session).begun seat.job l) (sym (seat_there core core' s l.session one (h.from_one k l e) other others))
@@ -177,7 +177,7 @@ keeps_first script core core' journal kept ps run s n kind command reply said pl
       stands = subst (Stands core' plain) (sym (map-set (λ (t : Told). t.reply) run.told (s - 1) told)) stands;
       legal = legal;
       lines = push_both kept (kept_of script run' core') run.lines _ line (refit kept (kept_of script run core) (kept_of script run' core') run.lines h.lines old_line)
-        (ap (λ (o : Option Reply). record { session = s; number = n; reply = o }) (said_is ∙ ap (λ (t : Told). (kept_by script t.begun (seat_of core' s).job line).reply) (sym here)));
+          (ap (λ (o : Option Reply). record { session = s; number = n; reply = o }) (said_is ∙ ap (λ (t : Told). (kept_by script t.begun (seat_of core' s).job line).reply) (sym here)));
       from_one = λ k l e. elim (after_push run.lines line k l e) [
         | inl new ↦ subst (λ (x : ℕ). 1 ≤ x) (sym (ap (λ (x : Line). x.session) new.1)) one
         | inr old ↦ h.from_one k l old
@@ -185,18 +185,18 @@ keeps_first script core core' journal kept ps run s n kind command reply said pl
       each = λ t one' within'. elim (cases_eq t s) [
         | inl same ↦ subst (λ (x : ℕ). SessionIs script (journal ++ e ∷ []) (run.lines ++ line ∷ []) x (told_of run' x) (seat_of core' x).job (progress_of (slice_set ps (s - 1) (record { begun = n; entry = length journal; line = length kept })) x)) (sym same)
             (session_at script _ _ s told (told_of run' s) (seat_of core' s).job (seat_of core' s).job (record { begun = n; entry = length journal; line = length run.lines }) _ here refl
-              (progress_here ps s _ one (omega (arith, h.places)) ∙ ap (λ (c : ℕ). record { begun = n; entry = length journal; line = c }) count)
-              (session_begins script journal run.lines s n (told_of run s).begun kind reply said (seat_of core' s).job next (number_within script s n command (omega (arith, next)) there) own.below answered quiet busy))
+            (progress_here ps s _ one (omega (arith, h.places)) ∙ ap (λ (c : ℕ). record { begun = n; entry = length journal; line = c }) count)
+            (session_begins script journal run.lines s n (told_of run s).begun kind reply said (seat_of core' s).job next (number_within script s n command (omega (arith, next)) there) own.below answered quiet busy))
         | inr other ↦
             session_at script _ _ t (told_of run t) (told_of run' t) (seat_of core t).job (seat_of core' t).job (progress_of ps t) _
-              (told_there run.told s t told one one' other)
-              (ap (λ (seat : Seat). seat.job) (seat_there core core' s t one one' other others))
-              (progress_there ps s t _ one one' other)
-              (session_stays script journal run.lines e line t _ _ _ (λ x. other (sym x)) (λ x. other (sym x)) (h.each t one' within'))
+            (told_there run.told s t told one one' other)
+            (ap (λ (seat : Seat). seat.job) (seat_there core core' s t one one' other others))
+            (progress_there ps s t _ one one' other)
+            (session_stays script journal run.lines e line t _ _ _ (λ x. other (sym x)) (λ x. other (sym x)) (h.each t one' within'))
       ];
       entries =
-        let more = one_first run.told s n told kind one told_within next refl refl in
-        omega (arith, h.entries, more, length-append journal (e ∷ []));
+          let more = one_first run.told s n told kind one told_within next refl refl in
+          omega (arith, h.entries, more, length-append journal (e ∷ []));
       fewer = omega (arith, h.fewer, length-append journal (e ∷ []), length-append run.lines (line ∷ []));
     }
 
@@ -247,10 +247,10 @@ next_is_other : (b n : ℕ) → n ≡ b + 1 → (b == n) ≡ false
 next_is_other b n next = grind (arith, nat_tests)
 
 pub first_by : (kind : Kind) (goes_on : Bool) (kept_reply : Option Reply) (script : Script) (core core' : CoreState) (journal : List JournalEntry) (kept : List KeptLine) (ps : List Progress) (run : Run) (s n : ℕ) (command : Command) →
-  StepsFirst kind core s command core' goes_on kept_reply →
-  Keeps script core journal kept ps run → run ≡ run_of script journal → 1 ≤ s → s ≤ length script.sessions → (seat_of core s).job ≡ jobs.Idle →
-  n ≡ (told_of run s).begun + 1 → command_at script s n ≡ Some command → OthersStay core s core' →
-  FirstKept script core' journal kept ps run s n command kind goes_on kept_reply
+    StepsFirst kind core s command core' goes_on kept_reply →
+    Keeps script core journal kept ps run → run ≡ run_of script journal → 1 ≤ s → s ≤ length script.sessions → (seat_of core s).job ≡ jobs.Idle →
+    n ≡ (told_of run s).begun + 1 → command_at script s n ≡ Some command → OthersStay core s core' →
+    FirstKept script core' journal kept ps run s n command kind goes_on kept_reply
 first_by kinds.Run true kept_reply script core core' journal kept ps run s n command steps h is one within idle next there others =
     let e : JournalEntry = record { session = s; number = n; kind = kinds.Run } in
     let built = h.rules.built s n command there in
@@ -263,7 +263,7 @@ first_by kinds.Run true kept_reply script core core' journal kept ps run s n com
       reply = Some said;
       told = ap (λ (r : Run). r.told) (run_moment script run s n command there);
       keeps = subst (Keeps script core' (journal ++ e ∷ []) (kept ++ (record { session = s; number = n; reply = kept_reply }) ∷ []) (slice_set ps (s - 1) (record { begun = n; entry = length journal; line = length kept }))) (sym (run_moment script run s n command there))
-        (keeps_first script core core' journal kept ps run s n kinds.Run command (Some said) said (answer script.schemas run.plain s command).after kept_reply h one within idle next there legal step.0 others (λ _. refl)
+          (keeps_first script core core' journal kept ps run s n kinds.Run command (Some said) said (answer script.schemas run.plain s command).after kept_reply h one within idle next there legal step.0 others (λ _. refl)
           (not_started script.schemas run.plain s command built)
           (busy_past script s _ (seat_of core' s).job step.1.2 busy)
           (step.1.3 ∙ sym (kept_going script n (seat_of core' s).job line command refl step.1.2 there)));
@@ -281,7 +281,7 @@ first_by kinds.Run false kept_reply script core core' journal kept ps run s n co
       reply = Some said;
       told = ap (λ (r : Run). r.told) (run_moment script run s n command there);
       keeps = subst (Keeps script core' (journal ++ e ∷ []) (kept ++ (record { session = s; number = n; reply = kept_reply }) ∷ []) (slice_set ps (s - 1) (record { begun = n; entry = length journal; line = length kept }))) (sym (run_moment script run s n command there))
-        (keeps_first script core core' journal kept ps run s n kinds.Run command (Some said) said (answer script.schemas run.plain s command).after kept_reply h one within idle next there legal step.0 others (λ _. refl)
+          (keeps_first script core core' journal kept ps run s n kinds.Run command (Some said) said (answer script.schemas run.plain s command).after kept_reply h one within idle next there legal step.0 others (λ _. refl)
           (not_started script.schemas run.plain s command built)
           (busy_idle script s _ (seat_of core' s).job step.1.1)
           (step.1.0 ∙ sym (ap (λ (l : KeptLine). l.reply) (said_idle script n (seat_of core' s).job line step.1.1))));
@@ -300,7 +300,7 @@ first_by kinds.Memory goes_on kept_reply script core core' journal kept ps run s
       reply = None;
       told = ap (λ (r : Run). r.told) want;
       keeps = subst (Keeps script core' (journal ++ e ∷ []) (kept ++ (record { session = s; number = n; reply = kept_reply }) ∷ []) (slice_set ps (s - 1) (record { begun = n; entry = length journal; line = length kept }))) (sym want)
-        (keeps_first script core core' journal kept ps run s n kinds.Memory command None replies.Memory (with_failure run.plain s) kept_reply h one within idle next there legal
+          (keeps_first script core core' journal kept ps run s n kinds.Memory command None replies.Memory (with_failure run.plain s) kept_reply h one within idle next there legal
           (stands_forget core' (with_failure run.plain s) (replies_of run) s None over (steps.0.stands run.plain (replies_of run) h.stands)) others (λ run. absurd (cc)) refl
           (busy_idle script s _ (seat_of core' s).job over)
           (steps.3 ∙ sym (ap (λ (l : KeptLine). l.reply) (said_idle script n (seat_of core' s).job line over))));

@@ -113,7 +113,7 @@ one_second tolds s told one within begun positive was last =
     let set = sum_by-set most_entries tolds (s - 1) told untold (omega arith) in
     let here : get_or tolds (s - 1) untold ≡ unwrap_or (slice_get tolds (s - 1)) untold = sym (unwrap_or-slice_get tolds (s - 1) untold) in
     let old : most_entries (get_or tolds (s - 1) untold) ≡ 2 * told.begun - 1 =
-        ap most_entries here ∙ ap (λ (k : Option Kind). most_entries_by (unwrap_or (slice_get tolds (s - 1)) untold).begun k) was ∙ ap (λ (b : ℕ). 2 * b - 1) (sym begun) in
+    ap most_entries here ∙ ap (λ (k : Option Kind). most_entries_by (unwrap_or (slice_get tolds (s - 1)) untold).begun k) was ∙ ap (λ (b : ℕ). 2 * b - 1) (sym begun) in
     let new : most_entries told ≡ 2 * told.begun = ap (λ (k : Option Kind). most_entries_by told.begun k) last in
     omega (arith, set, old, new, positive)
 

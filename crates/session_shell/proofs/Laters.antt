@@ -68,8 +68,8 @@ view_there script run core core' s line one one' other others =
 
 -- a later step without an entry, where the session's job is then this and its lines are kept so
 pub keeps_job : (script : Script) (core core' : CoreState) (journal : List JournalEntry) (kept kept' : List KeptLine) (ps : List Progress) (run : Run) (s : ℕ) →
-  Keeps script core journal kept ps run → 1 ≤ s → s ≤ length script.sessions → StaysFor core core' → OthersStay core s core' →
-  IsBusyBy script s (told_of run s) (seat_of core' s).job → KeptAs kept' (kept_of script run core') run.lines → Keeps script core' journal kept' ps run
+    Keeps script core journal kept ps run → 1 ≤ s → s ≤ length script.sessions → StaysFor core core' → OthersStay core s core' →
+    IsBusyBy script s (told_of run s) (seat_of core' s).job → KeptAs kept' (kept_of script run core') run.lines → Keeps script core' journal kept' ps run
 keeps_job script core core' journal kept kept' ps run s h one within stays others busy seen = record {
   rules = h.rules;
   schemas = others.schemas ∙ h.schemas;
@@ -94,8 +94,8 @@ past_same script begun job job' line past past' = simp (past, past')
 
 -- a command goes on
 pub keeps_more : (script : Script) (core core' : CoreState) (journal : List JournalEntry) (kept : List KeptLine) (ps : List Progress) (run : Run) (s : ℕ) →
-  Keeps script core journal kept ps run → 1 ≤ s → s ≤ length script.sessions → is_past_moment (seat_of core s).job ≡ true → StaysFor core core' → OthersStay core s core' → is_past_moment (seat_of core' s).job ≡ true →
-  Keeps script core' journal kept ps run
+    Keeps script core journal kept ps run → 1 ≤ s → s ≤ length script.sessions → is_past_moment (seat_of core s).job ≡ true → StaysFor core core' → OthersStay core s core' → is_past_moment (seat_of core' s).job ≡ true →
+    Keeps script core' journal kept ps run
 keeps_more script core core' journal kept ps run s h one within past stays others past' =
     keeps_job script core core' journal kept kept ps run s h one within stays others
     (busy_past script s (told_of run s) (seat_of core' s).job past' (busy_of script s (told_of run s) (seat_of core s).job past (h.each s one within).busy))
@@ -162,20 +162,20 @@ over_line script core core' kept run run' s at k l own begun idle there other sa
 
 -- a command is over
 pub keeps_done : (script : Script) (core core' : CoreState) (journal : List JournalEntry) (kept : List KeptLine) (ps : List Progress) (run : Run) (s at : ℕ) (reply : Reply) →
-  Keeps script core journal kept ps run → 1 ≤ s → s ≤ length script.sessions → OwnLine script core kept run s at → StaysFor core core' → OthersStay core s core' → (seat_of core' s).job ≡ jobs.Idle → EndsWith core s reply →
-  Keeps script core' journal (slice_set kept at (replied (slice_index_or kept at no_line) (Some reply))) ps run
+    Keeps script core journal kept ps run → 1 ≤ s → s ≤ length script.sessions → OwnLine script core kept run s at → StaysFor core core' → OthersStay core s core' → (seat_of core' s).job ≡ jobs.Idle → EndsWith core s reply →
+    Keeps script core' journal (slice_set kept at (replied (slice_index_or kept at no_line) (Some reply))) ps run
 keeps_done script core core' journal kept ps run s at reply h one within own stays others idle ends =
     let said : own.line.reply ≡ reply = own_reply run s reply own.line.reply one (omega (arith, h.told)) own.reply (ends.said run.plain (replies_of run) h.stands) in
     keeps_job script core core' journal kept (slice_set kept at (replied (slice_index_or kept at no_line) (Some reply))) ps run s h one within stays others
     (busy_idle script s (told_of run s) (seat_of core' s).job idle)
     (set_both kept (kept_of script run core) (kept_of script run core') run.lines at own.line (replied (slice_index_or kept at no_line) (Some reply)) h.lines own.there own.within
-      (own.replied reply
-        ∙ ap (λ (r : Reply). record { session = own.line.session; number = own.line.number; reply = Some r }) (sym said)
-        ∙ sym (said_idle script (told_of run own.line.session).begun (seat_of core' own.line.session).job own.line (ap (λ (t : ℕ). (seat_of core' t).job) own.session ∙ idle)))
-      (λ k l there other. elim (cases_eq l.session s) [
-        | inl same ↦ over_line script core core' kept run run s at k l own refl idle there other same
-        | inr apart ↦ view_there script run core core' s l one (h.from_one k l there) apart others
-      ]))
+    (own.replied reply
+    ∙ ap (λ (r : Reply). record { session = own.line.session; number = own.line.number; reply = Some r }) (sym said)
+    ∙ sym (said_idle script (told_of run own.line.session).begun (seat_of core' own.line.session).job own.line (ap (λ (t : ℕ). (seat_of core' t).job) own.session ∙ idle)))
+    (λ k l there other. elim (cases_eq l.session s) [
+      | inl same ↦ over_line script core core' kept run run s at k l own refl idle there other same
+      | inr apart ↦ view_there script run core core' s l one (h.from_one k l there) apart others
+    ]))
 
 or_true : (a b : Bool) → b ≡ true → (a || b) ≡ true
 or_true true b e = refl
@@ -239,8 +239,8 @@ session_corrected script journal lines e reply t told job place other h = record
 
 -- the session itself
 session_wants : (script : Script) (core : CoreState) (journal : List JournalEntry) (kept : List KeptLine) (run : Run) (s at : ℕ) (job : Job) (place : Progress) →
-  SessionIs script journal run.lines s (told_of run s) job place → (own : OwnLine script core kept run s at) (job' : Job) → job' ≡ jobs.Idle →
-  SessionIs script (journal ++ (record { session = s; number = (told_of run s).begun; kind = kinds.Memory }) ∷ []) (with_reply run.lines (record { session = s; number = (told_of run s).begun; kind = kinds.Memory }) replies.Memory) s (record { begun = (told_of run s).begun; last = Some kinds.Memory; reply = Some own.line.reply }) job' (record { begun = (told_of run s).begun; entry = length journal; line = at })
+    SessionIs script journal run.lines s (told_of run s) job place → (own : OwnLine script core kept run s at) (job' : Job) → job' ≡ jobs.Idle →
+    SessionIs script (journal ++ (record { session = s; number = (told_of run s).begun; kind = kinds.Memory }) ∷ []) (with_reply run.lines (record { session = s; number = (told_of run s).begun; kind = kinds.Memory }) replies.Memory) s (record { begun = (told_of run s).begun; last = Some kinds.Memory; reply = Some own.line.reply }) job' (record { begun = (told_of run s).begun; entry = length journal; line = at })
 session_wants script core journal kept run s at job place h own job' idle =
     let e : JournalEntry = record { session = s; number = (told_of run s).begun; kind = kinds.Memory } in
     record {
@@ -252,7 +252,7 @@ session_wants script core journal kept run s at job place h own job' idle =
       line = λ one. record {
         reply = replies.Memory;
         there = slice_get-map (corrected e replies.Memory) run.lines at ∙ ap (option_map (corrected e replies.Memory)) own.there
-          ∙ ap Some (corrected_own e replies.Memory own.line own.session own.number ∙ ap (λ (x : ℕ). record { session = x; number = own.line.number; reply = replies.Memory }) own.session ∙ ap (λ (x : ℕ). record { session = s; number = x; reply = replies.Memory }) own.number);
+            ∙ ap Some (corrected_own e replies.Memory own.line own.session own.number ∙ ap (λ (x : ℕ). record { session = x; number = own.line.number; reply = replies.Memory }) own.session ∙ ap (λ (x : ℕ). record { session = s; number = x; reply = replies.Memory }) own.number);
         answered = λ run. absurd (cc);
         only = λ k l there session number. let w = was e replies.Memory run.lines k l there in own.only k w.line w.there (sym w.session ∙ session) (sym w.number ∙ number);
       };
@@ -269,8 +269,8 @@ map_twice view f (Some line) = refl
 
 -- want of memory ends a command
 pub keeps_want : (script : Script) (core core' : CoreState) (journal : List JournalEntry) (kept : List KeptLine) (ps : List Progress) (run : Run) (s at : ℕ) →
-  Keeps script core journal kept ps run → run ≡ run_of script journal → 1 ≤ s → s ≤ length script.sessions → IsBusy script s (told_of run s) → (own : OwnLine script core kept run s at) → Falls core s core' → OthersStay core s core' →
-  Keeps script core' (journal ++ (record { session = s; number = (told_of run s).begun; kind = kinds.Memory }) ∷ []) (slice_set kept at (replied (slice_index_or kept at no_line) (Some replies.Memory))) (slice_set ps (s - 1) (record { begun = (told_of run s).begun; entry = length journal; line = at }))
+    Keeps script core journal kept ps run → run ≡ run_of script journal → 1 ≤ s → s ≤ length script.sessions → IsBusy script s (told_of run s) → (own : OwnLine script core kept run s at) → Falls core s core' → OthersStay core s core' →
+    Keeps script core' (journal ++ (record { session = s; number = (told_of run s).begun; kind = kinds.Memory }) ∷ []) (slice_set kept at (replied (slice_index_or kept at no_line) (Some replies.Memory))) (slice_set ps (s - 1) (record { begun = (told_of run s).begun; entry = length journal; line = at }))
     (told_more run (record { session = s; number = (told_of run s).begun; kind = kinds.Memory }) (Some own.line.reply) (with_failure run.plain s) (with_reply run.lines (record { session = s; number = (told_of run s).begun; kind = kinds.Memory }) replies.Memory))
 keeps_want script core core' journal kept ps run s at h is one within busy own falls others =
     let e : JournalEntry = record { session = s; number = (told_of run s).begun; kind = kinds.Memory } in
@@ -291,10 +291,10 @@ keeps_want script core core' journal kept ps run s at h is one within busy own f
       stands = subst (Stands core' (with_failure run.plain s)) (sym (map-set (λ (t : Told). t.reply) run.told (s - 1) told)) stays;
       legal = legal_push script journal e h.legal (subst (λ (r : Run). may_follow script r e ≡ true) is (may_second script run s (told_of run s).begun kinds.Memory busy.command busy.reply one refl busy.last busy.answered busy.there may));
       lines = λ k.
-        set_both kept (kept_of script run core) view' run.lines at own.line (replied (slice_index_or kept at no_line) (Some replies.Memory)) h.lines own.there own.within
+          set_both kept (kept_of script run core) view' run.lines at own.line (replied (slice_index_or kept at no_line) (Some replies.Memory)) h.lines own.there own.within
           (own.replied replies.Memory
-            ∙ sym (ap (kept_of script run' core') (corrected_own e replies.Memory own.line own.session own.number)
-              ∙ said_idle script (told_of run' own.line.session).begun (seat_of core' own.line.session).job (record own.line { reply = replies.Memory }) (ap (λ (t : ℕ). (seat_of core' t).job) own.session ∙ falls.over)))
+          ∙ sym (ap (kept_of script run' core') (corrected_own e replies.Memory own.line own.session own.number)
+          ∙ said_idle script (told_of run' own.line.session).begun (seat_of core' own.line.session).job (record own.line { reply = replies.Memory }) (ap (λ (t : ℕ). (seat_of core' t).job) own.session ∙ falls.over)))
           (λ i l there other. elim (cases_eq l.session s) [
             | inl same ↦
                 over_line script core core' kept run run' s at i l own begun falls.over there other same
@@ -304,24 +304,24 @@ keeps_want script core core' journal kept ps run s at h is one within busy own f
                 ∙ ap (λ (t : Told). kept_by script t.begun (seat_of core' l.session).job l) (sym (told_there run.told s l.session told one (h.from_one i l there) apart))
                 ∙ sym (ap (kept_of script run' core') (corrected_other e replies.Memory l (λ session number. apart session)))
           ]) k
-        ∙ sym (map_twice (kept_of script run' core') (corrected e replies.Memory) (slice_get run.lines k))
-        ∙ sym (ap (option_map (kept_of script run' core')) (slice_get-map (corrected e replies.Memory) run.lines k));
+          ∙ sym (map_twice (kept_of script run' core') (corrected e replies.Memory) (slice_get run.lines k))
+          ∙ sym (ap (option_map (kept_of script run' core')) (slice_get-map (corrected e replies.Memory) run.lines k));
       from_one = λ k l there. let w = was e replies.Memory run.lines k l there in subst (λ (x : ℕ). 1 ≤ x) (sym w.session) (h.from_one k w.line w.there);
       each = λ t one' within'. elim (cases_eq t s) [
         | inl same ↦ subst (λ (x : ℕ). SessionIs script (journal ++ e ∷ []) (with_reply run.lines e replies.Memory) x (told_of run' x) (seat_of core' x).job (progress_of (slice_set ps (s - 1) (record { begun = (told_of run s).begun; entry = length journal; line = at })) x)) (sym same)
             (session_at script _ _ s told (told_of run' s) (seat_of core' s).job (seat_of core' s).job (record { begun = (told_of run s).begun; entry = length journal; line = at }) _ here refl
-              (progress_here ps s _ one (omega (arith, h.places)))
-              (session_wants script core journal kept run s at (seat_of core s).job (progress_of ps s) (h.each s one within) own (seat_of core' s).job falls.over))
+            (progress_here ps s _ one (omega (arith, h.places)))
+            (session_wants script core journal kept run s at (seat_of core s).job (progress_of ps s) (h.each s one within) own (seat_of core' s).job falls.over))
         | inr other ↦
             session_at script _ _ t (told_of run t) (told_of run' t) (seat_of core t).job (seat_of core' t).job (progress_of ps t) _
-              (told_there run.told s t told one one' other)
-              (ap (λ (seat : Seat). seat.job) (seat_there core core' s t one one' other others))
-              (progress_there ps s t _ one one' other)
-              (session_corrected script journal run.lines e replies.Memory t _ _ _ (λ x. other (sym x)) (h.each t one' within'))
+            (told_there run.told s t told one one' other)
+            (ap (λ (seat : Seat). seat.job) (seat_there core core' s t one one' other others))
+            (progress_there ps s t _ one one' other)
+            (session_corrected script journal run.lines e replies.Memory t _ _ _ (λ x. other (sym x)) (h.each t one' within'))
       ];
       entries =
-        let more = one_second run.told s told one told_within refl busy.begun busy.last refl in
-        omega (arith, h.entries, more, length-append journal (e ∷ []));
+          let more = one_second run.told s told one told_within refl busy.begun busy.last refl in
+          omega (arith, h.entries, more, length-append journal (e ∷ []));
       fewer = omega (arith, h.fewer, length-append journal (e ∷ []), length-map run.lines (corrected e replies.Memory));
     }
 
@@ -331,17 +331,17 @@ with_core old core kept = record { script = old.script; core = core; journal = o
 
 -- one later turn without an entry
 ran_later : (old : HubState) (core : CoreState) (kept : List KeptLine) (ps : List Progress) (s : ℕ) (turn : Turn) → IsHub old ps → 1 ≤ s → s ≤ length old.script.sessions → is_past_moment (seat_of old.core s).job ≡ true → OthersStay old.core s core →
-  (end_of turn ≡ Nothing → ⊥) → record { begun = (told_of (run_of old.script old.journal) s).begun; under_way = is_past_moment (seat_of core s).job } ≡ place_after (record { begun = (told_of (run_of old.script old.journal) s).begun; under_way = true }) (end_of turn) →
-  Ran old (with_core old core kept) (turn_made s None turn ∷ [])
+    (end_of turn ≡ Nothing → ⊥) → record { begun = (told_of (run_of old.script old.journal) s).begun; under_way = is_past_moment (seat_of core s).job } ≡ place_after (record { begun = (told_of (run_of old.script old.journal) s).begun; under_way = true }) (end_of turn) →
+    Ran old (with_core old core kept) (turn_made s None turn ∷ [])
 ran_later old core kept ps s turn h one within past others made place =
     let run = run_of old.script old.journal in
     let b = (told_of run s).begun in
     let t : TurnMade = turn_made s None turn in
     ran_one old (with_core old core kept) ps s t (told_of run s) h one within refl refl (sym (append-nil old.journal))
-      (subst (λ (u : Bool). IsTurn old.script run (record { begun = b; under_way = u }) t) (sym past) (record { made = made; entry = λ e is. absurd (cc) }))
-      (sym (set_same run.told (s - 1) (told_of run s) (told_get run.told s one (omega (arith, h.told)))))
-      others
-      (place ∙ sym (ap (λ (u : Bool). place_after (record { begun = b; under_way = u }) (end_of turn)) past))
+    (subst (λ (u : Bool). IsTurn old.script run (record { begun = b; under_way = u }) t) (sym past) (record { made = made; entry = λ e is. absurd (cc) }))
+    (sym (set_same run.told (s - 1) (told_of run s) (told_get run.told s one (omega (arith, h.told)))))
+    others
+    (place ∙ sym (ap (λ (u : Bool). place_after (record { begun = b; under_way = u }) (end_of turn)) past))
 
 pub made_more : (old : HubState) (core : CoreState) (ps : List Progress) (s : ℕ) → IsHub old ps → 1 ≤ s → s ≤ length old.script.sessions → is_past_moment (seat_of old.core s).job ≡ true → OthersStay old.core s core → is_past_moment (seat_of core s).job ≡ true → MakesTurn old s (with_core old core old.kept) turns.More
 made_more old core ps s h one within past others past' = record {
@@ -394,12 +394,12 @@ hub_wants old core ps s at h one within past is falls others =
       made = record {
         entry = Some e;
         ran = ran_one old new ps s t told h one within refl refl refl
-          (subst (λ (u : Bool). IsTurn old.script run (record { begun = b; under_way = u }) t) (sym past) (record {
-            made = λ no. cc;
-            entry = λ x is. let same : e ≡ x = same_Some e x is in (ap (λ (y : JournalEntry). y.session) (sym same), ap (λ (y : JournalEntry). y.number) (sym same), ap (λ (y : JournalEntry). is_run y.kind) (sym same), refl);
-          }))
-          told_is others
-          (ap (λ (j : Job). record { begun = b; under_way = is_past_moment j }) falls.over ∙ sym (ap (λ (u : Bool). place_after (record { begun = b; under_way = u }) Ended) past));
+            (subst (λ (u : Bool). IsTurn old.script run (record { begun = b; under_way = u }) t) (sym past) (record {
+              made = λ no. cc;
+              entry = λ x is. let same : e ≡ x = same_Some e x is in (ap (λ (y : JournalEntry). y.session) (sym same), ap (λ (y : JournalEntry). y.number) (sym same), ap (λ (y : JournalEntry). is_run y.kind) (sym same), refl);
+            }))
+            told_is others
+            (ap (λ (j : Job). record { begun = b; under_way = is_past_moment j }) falls.over ∙ sym (ap (λ (u : Bool). place_after (record { begun = b; under_way = u }) Ended) past));
         named = named_last new ps' s (length old.journal) keeps one within (ap (λ (p : Progress). p.entry) (progress_here ps s _ one (omega (arith, h.places)))) (omega (arith, here, busy.begun));
       };
     }
@@ -431,7 +431,7 @@ abbrev pub hub_of : Script → CoreState → List JournalEntry → List KeptLine
 hub_of script core journal kept = record { script = script; core = core; journal = journal; kept = kept }
 
 pub done_is : (old : HubState) (core : CoreState) (ps : List Progress) (s : ℕ) (x : Progress) (reply : Reply) (kept : List KeptLine) → IsHub old ps → 1 ≤ s → s ≤ length old.script.sessions → is_past_moment (seat_of old.core s).job ≡ true → x ≡ get_or ps (s - 1) x →
-  StaysFor old.core core → OthersStay old.core s core → (seat_of core s).job ≡ jobs.Idle → EndsWith old.core s reply → kept ≡ slice_set old.kept x.line (replied (slice_index_or old.kept x.line no_line) (Some reply)) → IsHub (with_core old core kept) ps
+    StaysFor old.core core → OthersStay old.core s core → (seat_of core s).job ≡ jobs.Idle → EndsWith old.core s reply → kept ≡ slice_set old.kept x.line (replied (slice_index_or old.kept x.line no_line) (Some reply)) → IsHub (with_core old core kept) ps
 done_is old core ps s x reply kept h one within past is stays others idle ends kept_is =
     subst (λ (k : List KeptLine). IsHub (with_core old core k) ps) (sym kept_is)
     (keeps_done old.script old.core core old.journal old.kept ps (run_of old.script old.journal) s x.line reply h one within (line_is old ps s x h one within past is) stays others idle ends)
@@ -445,13 +445,13 @@ pub record WantsSo (old : HubState) (core : CoreState) (ps : List Progress) (s :
   pub made : MakesTurn old s (hub_of old.script core journal kept) (turns.Ended entry)
 
 pub wants_so : (old : HubState) (core : CoreState) (ps : List Progress) (s : ℕ) (x : Progress) (journal : List JournalEntry) (kept : List KeptLine) (ps' : List Progress) (entry : ℕ) → IsHub old ps → 1 ≤ s → s ≤ length old.script.sessions → x ≡ get_or ps (s - 1) x → HubWants old core ps s x.line →
-  journal ≡ old.journal ++ (record { session = s; number = x.begun; kind = kinds.Memory }) ∷ [] → kept ≡ slice_set old.kept x.line (replied (slice_index_or old.kept x.line no_line) (Some replies.Memory)) →
-  ps' ≡ slice_set ps (s - 1) (record { begun = x.begun; entry = entry; line = x.line }) → entry ≡ length old.journal → WantsSo old core ps s journal kept ps' entry
+    journal ≡ old.journal ++ (record { session = s; number = x.begun; kind = kinds.Memory }) ∷ [] → kept ≡ slice_set old.kept x.line (replied (slice_index_or old.kept x.line no_line) (Some replies.Memory)) →
+    ps' ≡ slice_set ps (s - 1) (record { begun = x.begun; entry = entry; line = x.line }) → entry ≡ length old.journal → WantsSo old core ps s journal kept ps' entry
 wants_so old core ps s x journal kept ps' entry h one within is b journal_is kept_is ps_is entry_is =
     let begun = number_is old ps s x h one within is in
     let j : journal ≡ (wanted old core s x.line).journal = journal_is ∙ ap (λ (n : ℕ). old.journal ++ (record { session = s; number = n; kind = kinds.Memory }) ∷ []) begun in
     let p : ps' ≡ slice_set ps (s - 1) (record { begun = (told_of (run_of old.script old.journal) s).begun; entry = length old.journal; line = x.line }) =
-        ps_is ∙ ap (λ (n : ℕ). slice_set ps (s - 1) (record { begun = n; entry = entry; line = x.line })) begun ∙ ap (λ (n : ℕ). slice_set ps (s - 1) (record { begun = (told_of (run_of old.script old.journal) s).begun; entry = n; line = x.line })) entry_is in
+    ps_is ∙ ap (λ (n : ℕ). slice_set ps (s - 1) (record { begun = n; entry = entry; line = x.line })) begun ∙ ap (λ (n : ℕ). slice_set ps (s - 1) (record { begun = (told_of (run_of old.script old.journal) s).begun; entry = n; line = x.line })) entry_is in
     record {
       keeps =
           subst (λ (js : List JournalEntry). IsHub (hub_of old.script core js kept) ps') (sym j)

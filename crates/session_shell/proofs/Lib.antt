@@ -11,3 +11,7 @@ pub mod Counts
 pub mod Turning
 pub mod Whole
 pub mod Finishing
+pub mod Outcomes
+pub mod Texts
+pub mod Scripted
+pub mod Headline

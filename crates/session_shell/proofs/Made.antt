@@ -47,11 +47,11 @@ place_in_is script core journal kept ps run s h one within = place_is run.told c
 
 -- one turn
 pub ran_one : (old new : HubState) (ps : List Progress) (s : ℕ) (t : TurnMade) (told : Told) →
-  IsHub old ps → 1 ≤ s → s ≤ length old.script.sessions → t.session ≡ s → new.script ≡ old.script → new.journal ≡ old.journal ++ entry_in t.entry →
-  IsTurn old.script (run_of old.script old.journal) (record { begun = (told_of (run_of old.script old.journal) s).begun; under_way = is_past_moment (seat_of old.core s).job }) t →
-  (run_of new.script new.journal).told ≡ slice_set (run_of old.script old.journal).told (s - 1) told → OthersStay old.core s new.core →
-  record { begun = told.begun; under_way = is_past_moment (seat_of new.core s).job } ≡ place_after (record { begun = (told_of (run_of old.script old.journal) s).begun; under_way = is_past_moment (seat_of old.core s).job }) t.end →
-  Ran old new (t ∷ [])
+    IsHub old ps → 1 ≤ s → s ≤ length old.script.sessions → t.session ≡ s → new.script ≡ old.script → new.journal ≡ old.journal ++ entry_in t.entry →
+    IsTurn old.script (run_of old.script old.journal) (record { begun = (told_of (run_of old.script old.journal) s).begun; under_way = is_past_moment (seat_of old.core s).job }) t →
+    (run_of new.script new.journal).told ≡ slice_set (run_of old.script old.journal).told (s - 1) told → OthersStay old.core s new.core →
+    record { begun = told.begun; under_way = is_past_moment (seat_of new.core s).job } ≡ place_after (record { begun = (told_of (run_of old.script old.journal) s).begun; under_way = is_past_moment (seat_of old.core s).job }) t.end →
+    Ran old new (t ∷ [])
 ran_one old new ps s t told h one within own same grown turn told_is others place =
     let run = run_of old.script old.journal in
     let here = place_in_is old.script old.core old.journal old.kept ps run s h one within in
@@ -81,10 +81,10 @@ rests old ps s n h one within idle next none =
     record {
       entry = None;
       ran = ran_one old old ps s t (told_of run s) h one within refl refl (sym (append-nil old.journal))
-        (subst (λ (u : Bool). IsTurn old.script run (record { begun = b; under_way = u }) t) (sym (ap is_past_moment idle))
+          (subst (λ (u : Bool). IsTurn old.script run (record { begun = b; under_way = u }) t) (sym (ap is_past_moment idle))
           (subst (TurnBeginsBy old.script run (record { begun = b; under_way = false }) t) (sym (ap (command_at old.script s) (sym next) ∙ none)) (record { entry = refl; end = refl })))
-        (sym (set_same run.told (s - 1) (told_of run s) (told_get run.told s one (omega (arith, h.told)))))
-        (others_same old.core s) refl;
+          (sym (set_same run.told (s - 1) (told_of run s) (told_get run.told s one (omega (arith, h.told)))))
+          (others_same old.core s) refl;
       named = tt;
     }
 
@@ -105,14 +105,14 @@ pub named_last : (hub : HubState) (ps : List Progress) (s at : ℕ) → IsHub hu
 named_last hub ps s at h one within is begun = subst (λ (k : ℕ). IsLastEntry hub.journal k s (told_of (run_of hub.script hub.journal) s).begun) is ((h.each s one within).entry begun)
 
 made_by : (goes_on : Bool) (old new : HubState) (ps : List Progress) (s n : ℕ) (command : Command) (kind : Kind) (told : Told) (turn : Turn) →
-  IsHub old ps → 1 ≤ s → s ≤ length old.script.sessions → (seat_of old.core s).job ≡ jobs.Idle →
-  n ≡ (told_of (run_of old.script old.journal) s).begun + 1 → command_at old.script s n ≡ Some command → OthersStay old.core s new.core → new.script ≡ old.script →
-  new.journal ≡ old.journal ++ (record { session = s; number = n; kind = kind }) ∷ [] → told.begun ≡ n →
-  (run_of new.script new.journal).told ≡ slice_set (run_of old.script old.journal).told (s - 1) told →
-  is_past_moment (seat_of new.core s).job ≡ goes_on →
-  (goes_on ≡ true → (kind ≡ kinds.Run) × (is_granted (answer old.script.schemas (run_of old.script old.journal).plain s command).reply ≡ true) × (is_one_step command ≡ false)) →
-  NamesLast new s (turns.Ended (length old.journal)) →
-  turn ≡ (if goes_on then turns.More else turns.Ended (length old.journal)) → MakesTurn old s new turn
+    IsHub old ps → 1 ≤ s → s ≤ length old.script.sessions → (seat_of old.core s).job ≡ jobs.Idle →
+    n ≡ (told_of (run_of old.script old.journal) s).begun + 1 → command_at old.script s n ≡ Some command → OthersStay old.core s new.core → new.script ≡ old.script →
+    new.journal ≡ old.journal ++ (record { session = s; number = n; kind = kind }) ∷ [] → told.begun ≡ n →
+    (run_of new.script new.journal).told ≡ slice_set (run_of old.script old.journal).told (s - 1) told →
+    is_past_moment (seat_of new.core s).job ≡ goes_on →
+    (goes_on ≡ true → (kind ≡ kinds.Run) × (is_granted (answer old.script.schemas (run_of old.script old.journal).plain s command).reply ≡ true) × (is_one_step command ≡ false)) →
+    NamesLast new s (turns.Ended (length old.journal)) →
+    turn ≡ (if goes_on then turns.More else turns.Ended (length old.journal)) → MakesTurn old s new turn
 made_by true old new ps s n command kind told turn h one within idle next there others same grown begun told_is past more named is =
     let e : JournalEntry = record { session = s; number = n; kind = kind } in
     let run = run_of old.script old.journal in
@@ -121,11 +121,11 @@ made_by true old new ps s n command kind told turn h one within idle next there 
     subst (MakesTurn old s new) (sym is) (record {
       entry = Some e;
       ran = ran_one old new ps s t told h one within refl same grown
-        (subst (λ (u : Bool). IsTurn old.script run (record { begun = b; under_way = u }) t) (sym (ap is_past_moment idle))
+          (subst (λ (u : Bool). IsTurn old.script run (record { begun = b; under_way = u }) t) (sym (ap is_past_moment idle))
           (subst (TurnBeginsBy old.script run (record { begun = b; under_way = false }) t) (sym (ap (command_at old.script s) (sym next) ∙ there))
-            (record { entry = e; is = refl; session = refl; number = next; made = λ no. absurd (cc); more = λ _. more refl })))
-        told_is others
-        (ap (λ (x : ℕ). record { begun = x; under_way = is_past_moment (seat_of new.core s).job }) (begun ∙ next)
+          (record { entry = e; is = refl; session = refl; number = next; made = λ no. absurd (cc); more = λ _. more refl })))
+          told_is others
+          (ap (λ (x : ℕ). record { begun = x; under_way = is_past_moment (seat_of new.core s).job }) (begun ∙ next)
           ∙ ap (λ (u : Bool). record { begun = b + 1; under_way = u }) past
           ∙ sym (ap (λ (j : Job). place_after (record { begun = b; under_way = is_past_moment j }) More) idle));
       named = tt;
@@ -138,11 +138,11 @@ made_by false old new ps s n command kind told turn h one within idle next there
     subst (MakesTurn old s new) (sym is) (record {
       entry = Some e;
       ran = ran_one old new ps s t told h one within refl same grown
-        (subst (λ (u : Bool). IsTurn old.script run (record { begun = b; under_way = u }) t) (sym (ap is_past_moment idle))
+          (subst (λ (u : Bool). IsTurn old.script run (record { begun = b; under_way = u }) t) (sym (ap is_past_moment idle))
           (subst (TurnBeginsBy old.script run (record { begun = b; under_way = false }) t) (sym (ap (command_at old.script s) (sym next) ∙ there))
-            (record { entry = e; is = refl; session = refl; number = next; made = λ no. absurd (cc); more = λ no. absurd (cc) })))
-        told_is others
-        (ap (λ (x : ℕ). record { begun = x; under_way = is_past_moment (seat_of new.core s).job }) (begun ∙ next)
+          (record { entry = e; is = refl; session = refl; number = next; made = λ no. absurd (cc); more = λ no. absurd (cc) })))
+          told_is others
+          (ap (λ (x : ℕ). record { begun = x; under_way = is_past_moment (seat_of new.core s).job }) (begun ∙ next)
           ∙ ap (λ (u : Bool). record { begun = b + 1; under_way = u }) past
           ∙ sym (ap (λ (j : Job). place_after (record { begun = b; under_way = is_past_moment j }) Ended) idle));
       named = named;
@@ -155,7 +155,7 @@ pub record HubBegun (old : HubState) (core : CoreState) (ps : List Progress) (s 
   pub past : is_past_moment (seat_of core s).job ≡ first.goes_on
 
 pub begun_hub : (old : HubState) (core : CoreState) (ps : List Progress) (s n : ℕ) (command : Command) (first : First) → BeginsBy old.core s command core first → IsHub old ps → 1 ≤ s → s ≤ length old.script.sessions → (seat_of old.core s).job ≡ jobs.Idle →
-  n ≡ (told_of (run_of old.script old.journal) s).begun + 1 → command_at old.script s n ≡ Some command → OthersStay old.core s core → HubBegun old core ps s n first
+    n ≡ (told_of (run_of old.script old.journal) s).begun + 1 → command_at old.script s n ≡ Some command → OthersStay old.core s core → HubBegun old core ps s n first
 begun_hub old core ps s n command first begins h one within idle next there others =
     let e : JournalEntry = record { session = s; number = n; kind = first.kind } in
     let run = run_of old.script old.journal in
@@ -168,8 +168,8 @@ begun_hub old core ps s n command first begins h one within idle next there othe
     record {
       keeps = keeps;
       made = λ turn is. made_by first.goes_on old new ps s n command first.kind told turn h one within idle next there others refl refl refl told_is k.past k.more
-        (named_last new (moved old ps s n) s (length old.journal) keeps one within (ap (λ (p : Progress). p.entry) (progress_here ps s _ one (omega (arith, h.places)))) (omega (arith, here, next)))
-        is;
+          (named_last new (moved old ps s n) s (length old.journal) keeps one within (ap (λ (p : Progress). p.entry) (progress_here ps s _ one (omega (arith, h.places)))) (omega (arith, here, next)))
+          is;
       past = k.past;
     }
 
@@ -188,8 +188,8 @@ pub fits : (hub : HubState) (ps : List Progress) → IsHub hub ps → Fits hub.s
 fits hub ps h =
     let run = run_of hub.script hub.journal in
     let begun : (i : ℕ) → i < length run.told → (unwrap_or (slice_get run.told i) untold).begun ≤ length (unwrap_or (slice_get hub.script.sessions i) []) = λ (i : ℕ) (k : i < length run.told).
-      let back : i + 1 - 1 ≡ i = omega arith in
-      subst (λ (j : ℕ). (unwrap_or (slice_get run.told j) untold).begun ≤ length (unwrap_or (slice_get hub.script.sessions j) [])) back ((h.each (i + 1) (omega arith) (omega (arith, k, h.told))).within) in
+    let back : i + 1 - 1 ≡ i = omega arith in
+    subst (λ (j : ℕ). (unwrap_or (slice_get run.told j) untold).begun ≤ length (unwrap_or (slice_get hub.script.sessions j) [])) back ((h.each (i + 1) (omega arith) (omega (arith, k, h.told))).within) in
     let most = all_entries run.told hub.script.sessions h.told begun in
     record {
       journal_fits = omega (arith, most, h.entries);
@@ -199,14 +199,14 @@ fits hub ps h =
 
 -- the same, as it was recorded
 pub begun_is : (old : HubState) (core : CoreState) (ps ps' : List Progress) (s n : ℕ) (first : First) (journal : List JournalEntry) (kept : List KeptLine) → HubBegun old core ps s n first →
-  journal ≡ (recorded old core s n first).journal → kept ≡ (recorded old core s n first).kept → ps' ≡ moved old ps s n → IsHub (record { script = old.script; core = core; journal = journal; kept = kept }) ps'
+    journal ≡ (recorded old core s n first).journal → kept ≡ (recorded old core s n first).kept → ps' ≡ moved old ps s n → IsHub (record { script = old.script; core = core; journal = journal; kept = kept }) ps'
 begun_is old core ps ps' s n first journal kept h e f g =
     subst (λ (j : List JournalEntry). IsHub (record { script = old.script; core = core; journal = j; kept = kept }) ps') (sym e)
     (subst (λ (k : List KeptLine). IsHub (record { script = old.script; core = core; journal = (recorded old core s n first).journal; kept = k }) ps') (sym f)
     (subst (λ (p : List Progress). IsHub (recorded old core s n first) p) (sym g) h.keeps))
 
 pub begun_made : (old : HubState) (core : CoreState) (ps : List Progress) (s n : ℕ) (first : First) (journal : List JournalEntry) (kept : List KeptLine) (turn : Turn) → HubBegun old core ps s n first →
-  journal ≡ (recorded old core s n first).journal → kept ≡ (recorded old core s n first).kept → turn ≡ (if first.goes_on then turns.More else turns.Ended (length old.journal)) → MakesTurn old s (record { script = old.script; core = core; journal = journal; kept = kept }) turn
+    journal ≡ (recorded old core s n first).journal → kept ≡ (recorded old core s n first).kept → turn ≡ (if first.goes_on then turns.More else turns.Ended (length old.journal)) → MakesTurn old s (record { script = old.script; core = core; journal = journal; kept = kept }) turn
 begun_made old core ps s n first journal kept turn h e f is =
     subst (λ (j : List JournalEntry). MakesTurn old s (record { script = old.script; core = core; journal = j; kept = kept }) turn) (sym e)
     (subst (λ (k : List KeptLine). MakesTurn old s (record { script = old.script; core = core; journal = (recorded old core s n first).journal; kept = k }) turn) (sym f)

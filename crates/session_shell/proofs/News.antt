@@ -55,7 +55,7 @@ session_first script s = record {
 
 -- a new hub
 pub keeps_new : (script : Script) (core : CoreState) (ps : List Progress) → IsScript script → core.schemas ≡ script.schemas → core.seats ≡ replicate (length script.sessions) nobody → ps ≡ replicate (length script.sessions) at_start →
-  Stands core (first_state (length script.sessions)) (replicate (length script.sessions) None) → Keeps script core [] [] ps (first_run script)
+    Stands core (first_state (length script.sessions)) (replicate (length script.sessions) None) → Keeps script core [] [] ps (first_run script)
 keeps_new script core ps rules schemas seats places stands =
     let n = length script.sessions in
     record {
@@ -69,10 +69,10 @@ keeps_new script core ps rules schemas seats places stands =
       lines = λ k. refl;
       from_one = λ k l there. absurd (cc);
       each = λ s one within. session_at script [] [] s untold (told_of (first_run script) s) jobs.Idle (seat_of core s).job at_start (progress_of ps s)
-        (get_replicate n (s - 1) untold)
-        (ap (λ (xs : List Seat). (get_or xs (s - 1) nobody).job) seats ∙ ap (λ (x : Seat). x.job) (at_replicate n (s - 1) nobody))
-        (ap (λ (xs : List Progress). get_or xs (s - 1) at_start) places ∙ at_replicate n (s - 1) at_start)
-        (session_first script s);
+          (get_replicate n (s - 1) untold)
+          (ap (λ (xs : List Seat). (get_or xs (s - 1) nobody).job) seats ∙ ap (λ (x : Seat). x.job) (at_replicate n (s - 1) nobody))
+          (ap (λ (xs : List Progress). get_or xs (s - 1) at_start) places ∙ at_replicate n (s - 1) at_start)
+          (session_first script s);
       entries = omega arith;
       fewer = omega arith;
     }
@@ -99,12 +99,12 @@ idle_not_past (jobs.Writing job) e past = cc
 
 -- a new hub, as it was made
 pub new_is : (script : Script) (core : CoreState) (journal : List JournalEntry) (kept : List KeptLine) (ps : List Progress) (n count : ℕ) → IsScript script → journal ≡ [] → kept ≡ [] → n ≡ length script.sessions → count ≡ length script.sessions → core.schemas ≡ script.schemas → core.seats ≡ replicate n nobody → ps ≡ replicate count at_start →
-  Stands core (first_state n) (replicate n None) → IsHub (record { script = script; core = core; journal = journal; kept = kept }) ps
+    Stands core (first_state n) (replicate n None) → IsHub (record { script = script; core = core; journal = journal; kept = kept }) ps
 new_is script core journal kept ps n count rules j k n_is count_is schemas seats places stands =
     subst (λ (js : List JournalEntry). IsHub (record { script = script; core = core; journal = js; kept = kept }) ps) (sym j)
     (subst (λ (ks : List KeptLine). IsHub (record { script = script; core = core; journal = []; kept = ks }) ps) (sym k)
     (keeps_new script core ps rules schemas (seats ∙ ap (λ (m : ℕ). replicate m nobody) n_is) (places ∙ ap (λ (m : ℕ). replicate m at_start) count_is)
-      (subst (λ (m : ℕ). Stands core (first_state m) (replicate m None)) n_is stands)))
+    (subst (λ (m : ℕ). Stands core (first_state m) (replicate m None)) n_is stands)))
 
 -- where its sessions are
 pub new_places : (script : Script) (core : CoreState) (journal : List JournalEntry) (n : ℕ) → journal ≡ [] → n ≡ length script.sessions → core.seats ≡ replicate n nobody → places_by (run_of script journal).told core.seats ≡ replicate (length script.sessions) (record { begun = 0; under_way = false })

@@ -85,9 +85,9 @@ may_second script run s n kind command reply one same last answered there may =
     let told = told_of run s in
     let by_reply = λ (c : Command). option_map_or (λ (r : Reply). may_come_second c r kind) told.reply false in
     let here : option_map_or by_reply (command_at script s n) false ≡ true =
-        ap (λ (o : Option Command). option_map_or by_reply o false) there
-        ∙ ap (λ (o : Option Reply). option_map_or (λ (r : Reply). may_come_second command r kind) o false) answered
-        ∙ may in
+    ap (λ (o : Option Command). option_map_or by_reply o false) there
+    ∙ ap (λ (o : Option Reply). option_map_or (λ (r : Reply). may_come_second command r kind) o false) answered
+    ∙ may in
     and_intro _ _ (is_positive s one)
     (or_right _ _ (and_intro _ _ (and_intro _ _ (eq-eqb n told.begun same) (ap (λ (o : Option Kind). option_map_or is_run o false) last)) here))
 
@@ -105,7 +105,7 @@ cut_is m s none = ap (λ (n : Plain). with_failure n s) (no_upkeep (λ running. 
 
 -- want of memory before a command's moment
 pub run_want : (script : Script) (run : Run) (s n : ℕ) → run.plain.upkeep ≡ [] → ((told_of run s).begun == n) ≡ false →
-  after_entry script run (record { session = s; number = n; kind = kinds.Memory }) ≡ told_more run (record { session = s; number = n; kind = kinds.Memory }) None (with_failure run.plain s) (run.lines ++ (record { session = s; number = n; reply = replies.Memory }) ∷ [])
+    after_entry script run (record { session = s; number = n; kind = kinds.Memory }) ≡ told_more run (record { session = s; number = n; kind = kinds.Memory }) None (with_failure run.plain s) (run.lines ++ (record { session = s; number = n; reply = replies.Memory }) ∷ [])
 run_want script run s n none other =
     let e : JournalEntry = record { session = s; number = n; kind = kinds.Memory } in
     let before : reply_before run e ≡ None = ap (λ (b : Bool). if b then (told_of run s).reply else None) other in
@@ -114,7 +114,7 @@ run_want script run s n none other =
 
 -- want of memory after a data command's moment
 pub run_want_later : (script : Script) (run : Run) (s n : ℕ) (command : Command) (reply : Reply) → run.plain.upkeep ≡ [] → ((told_of run s).begun == n) ≡ true → (told_of run s).reply ≡ Some reply → command_at script s n ≡ Some command → is_data command ≡ true →
-  after_entry script run (record { session = s; number = n; kind = kinds.Memory }) ≡ told_more run (record { session = s; number = n; kind = kinds.Memory }) (Some reply) (with_failure run.plain s) (with_reply run.lines (record { session = s; number = n; kind = kinds.Memory }) replies.Memory)
+    after_entry script run (record { session = s; number = n; kind = kinds.Memory }) ≡ told_more run (record { session = s; number = n; kind = kinds.Memory }) (Some reply) (with_failure run.plain s) (with_reply run.lines (record { session = s; number = n; kind = kinds.Memory }) replies.Memory)
 run_want_later script run s n command reply none same answered there rows =
     let e : JournalEntry = record { session = s; number = n; kind = kinds.Memory } in
     let before : reply_before run e ≡ Some reply = ap (λ (b : Bool). if b then (told_of run s).reply else None) same ∙ answered in

@@ -45,10 +45,10 @@ ran_on a b c ts us h k = record {
   script = k.script ∙ h.script;
   journal = k.journal ∙ ap (λ (es : List JournalEntry). es ++ entries_of us) h.journal ∙ append_assoc a.journal (entries_of ts) (entries_of us) ∙ ap (λ (es : List JournalEntry). a.journal ++ es) (sym (entries-append ts us));
   each = turns-append a.script (run_of a.script a.journal) (places_in a) ts us h.each
-    (subst (λ (ps : List Place). AreTurns a.script (run_on a.script (run_of a.script a.journal) (entries_of ts)) ps us) h.places
+      (subst (λ (ps : List Place). AreTurns a.script (run_on a.script (run_of a.script a.journal) (entries_of ts)) ps us) h.places
       (subst (λ (r : Run). AreTurns a.script r (places_in b) us)
-        (ap (run_of a.script) h.journal ∙ run_on-append a.script (first_run a.script) a.journal (entries_of ts))
-        (subst (λ (s : Script). AreTurns s (run_of s b.journal) (places_in b) us) h.script k.each)));
+      (ap (run_of a.script) h.journal ∙ run_on-append a.script (first_run a.script) a.journal (entries_of ts))
+      (subst (λ (s : Script). AreTurns s (run_of s b.journal) (places_in b) us) h.script k.each)));
   places = k.places ∙ ap (λ (ps : List Place). after_turns ps us) h.places ∙ sym (after-append (places_in a) ts us);
 }
 

@@ -47,7 +47,7 @@ pub record Facts (script : Script) (s : ℕ) (old new : Place) (end : End) : Typ
   pub begins : old.under_way ≡ false → old.begun < length (commands_of script s) → (new.begun ≡ old.begun + 1) × (end ≢ Nothing)
 
 facts_by : (u : Bool) (end : End) (b s : ℕ) (script : Script) (run : Run) (entry : Option JournalEntry) → TurnBy u script run (record { begun = b; under_way = u }) (record { session = s; entry = entry; end = end }) →
-  Facts script s (record { begun = b; under_way = u }) (place_after (record { begun = b; under_way = u }) end) end
+    Facts script s (record { begun = b; under_way = u }) (place_after (record { begun = b; under_way = u }) end) end
 facts_by true Nothing b s script run entry turn = absurd (turn.made refl)
 facts_by true More b s script run entry turn = record { ended = λ no. absurd (no refl); going = λ _. refl; stays = λ _. (refl, turn.made); begins = λ no _. absurd (cc) }
 facts_by true Ended b s script run entry turn = record { ended = λ _. refl; going = λ no. absurd (cc); stays = λ _. (refl, turn.made); begins = λ no _. absurd (cc) }

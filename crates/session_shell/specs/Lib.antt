@@ -3,3 +3,5 @@ pub mod Hubs
 pub mod Steps
 pub mod Turns
 pub mod Follows
+pub mod Text
+pub mod Replay

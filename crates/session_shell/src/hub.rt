@@ -8,16 +8,15 @@ ghost use Rattle.toast_core.specs.Events.{left};
 ghost use Rattle.toast_core.specs.Stands.{is_past_moment};
 ghost use Rattle.session_shell.specs.Lines.{no_line, with_reply};
 
+use crate::print::text_of;
 use crate::steps::{First, Later, first_step, later_step};
 use command_set::{Command, Item, JournalEntry, Kind, Reply, SchemaList, Script};
 use std::alloc::{AllocError, Global};
 use std::marker::Model;
 use toast_core::parts::Job;
 use toast_core::{Core, Setup, Under};
+use toast_io::Bytes;
 use tuple_layout::{Schema, SchemaFault};
-
-/// A journal's entries, in order. Contracts know a vector's room, by which an entry is recorded without memory.
-pub type JournalList = Vec<JournalEntry>;
 
 /// What a turn of a session has come to.
 #[derive(Clone, Copy, Debug, PartialEq, Eq)]
@@ -53,7 +52,7 @@ pub struct Progress {
 pub struct Hub {
     script: Script,
     core: Core,
-    journal: JournalList,
+    journal: Vec<JournalEntry>,
     kept: Vec<KeptLine>,
     progress: Vec<Progress>,
 }
@@ -73,6 +72,7 @@ impl Model for Hub {
 impl Hub {
     ghost use Rattle.session_shell.specs.Hubs.{IsScript, IsSessionOf, commands_of, session_in};
     ghost use Rattle.session_shell.specs.Turns.{MakesTurn, at_start, place_of, places_in};
+    ghost use Rattle.session_shell.specs.Text.{text_of};
     ghost use Rattle.session_shell.specs.Follows.{EmptiesSession, EndsSession, IsIdle, RunsEmptying, RunsEnding, RunsFinish, RunsItem, RunsItems, RunsWhole, items_in, items_of, passage_at};
 
     /// A hub whose sessions have begun nothing.
@@ -354,11 +354,20 @@ impl Hub {
     }
 
     /// The journal so far.
-    pub fn journal(&self) -> &JournalList
-        ensures entries { result.now.items ≡ self.now.journal }
+    pub fn journal(&self) -> &[JournalEntry]
+        ensures entries { result.now ≡ self.now.journal }
         ensures legal { IsTrue (is_legal self.now.script self.now.journal) }
     {
         &self.journal
+    }
+
+    /// The text of the printed lines, where nothing is under way.
+    pub(crate) fn text(&self, alloc: Global) -> Result<Bytes, AllocError>
+        requires { IsIdle self.now }
+        ensures { IfOk result (λ text. text ≡ text_of self.now.script self.now.journal) }
+    {
+        let text = text_of(alloc, &self.kept)?;
+        Ok(text)
     }
 
     /// The reply of a line, from 0, if it is there and known.
@@ -407,7 +416,7 @@ fn next_command(script: &Script, session: u16, begun: u32) -> Option<&Command>
 
 // Records the first entry of a command, and its line.
 fn record_first(
-    journal: &mut JournalList,
+    journal: &mut Vec<JournalEntry>,
     kept: &mut Vec<KeptLine>,
     progress: &mut Vec<Progress>,
     session: u16,
@@ -461,7 +470,7 @@ fn turn_after(goes_on: bool, entry: u32) -> Turn
 }
 
 // Adds an entry where room for it is kept.
-fn push_entry(journal: &mut JournalList, entry: JournalEntry)
+fn push_entry(journal: &mut Vec<JournalEntry>, entry: JournalEntry)
     requires { vec_len journal.old < vec_capacity journal.old }
     ensures items { journal.new.items ≡ journal.old.items ++ entry ∷ [] }
     ensures room { vec_capacity journal.old ≤ vec_capacity journal.new }

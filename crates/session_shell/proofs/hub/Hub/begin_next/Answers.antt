@@ -114,8 +114,7 @@ invariant_of-self c =
     let old = the_view c.self.inside in
     let ps = c.self.inside.progress.items in
     let next = begun_next old ps c.args.session c.index.result.now c.self.invariant.0 q.session.from_one q.session.within c.index.ensures in
-    let b = begun_hub old c.first_step-first.new.core ps c.args.session (c.index.result.now.begun + 1) c.in-Some.command.now c.first_step-first.result c.first_step-first.ensures.begins c.self.invariant.0 q.session.from_one q.session.within q.idle next (sym c.in-Some.ensures) c.first_step-first.ensures.apart in
-    (
+    let b = begun_hub old c.first_step-first.new.core ps c.args.session (c.index.result.now.begun + 1) c.in-Some.command.now c.first_step-first.result c.first_step-first.ensures.begins c.self.invariant.0 q.session.from_one q.session.within q.idle next (sym c.in-Some.ensures) c.first_step-first.ensures.apart in (
       begun_is old c.first_step-first.new.core ps c.record_first.new.progress.items c.args.session (c.index.result.now.begun + 1) c.first_step-first.result c.record_first.new.journal.items c.record_first.new.kept.items b c.record_first.ensures.journal c.record_first.ensures.kept c.record_first.ensures.progress,
       omega (arith, c.self.invariant.1, c.record_first.ensures.entries),
       omega (arith, c.self.invariant.2, c.record_first.ensures.lines),
@@ -129,7 +128,7 @@ returns-clause-made c =
     let next = begun_next old ps c.args.session c.index.result.now c.self.invariant.0 q.session.from_one q.session.within c.index.ensures in
     let b = begun_hub old c.first_step-first.new.core ps c.args.session (c.index.result.now.begun + 1) c.in-Some.command.now c.first_step-first.result c.first_step-first.ensures.begins c.self.invariant.0 q.session.from_one q.session.within q.idle next (sym c.in-Some.ensures) c.first_step-first.ensures.apart in
     rw (← c.self.view_is) (begun_made old c.first_step-first.new.core ps c.args.session (c.index.result.now.begun + 1) c.first_step-first.result c.record_first.new.journal.items c.record_first.new.kept.items c.turn_after.result b c.record_first.ensures.journal c.record_first.ensures.kept
-      (c.turn_after.ensures ∙ ap (λ (at : ℕ). if c.first_step-first.result.goes_on then turns.More else turns.Ended at) (c.len-entry.ensures ∙ c.self.inside.journal.ok.0)))
+    (c.turn_after.ensures ∙ ap (λ (at : ℕ). if c.first_step-first.result.goes_on then turns.More else turns.Ended at) (c.len-entry.ensures ∙ c.self.inside.journal.ok.0)))
 
 pub returns-clause-legal : goal.returns-clause-legal
 returns-clause-legal c =

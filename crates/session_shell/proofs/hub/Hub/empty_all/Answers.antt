@@ -40,7 +40,7 @@ returns-clause-complete c =
     let over = over_all c.args.self.now c.loop-at.self c.loop-at.at c.loop-at.invariant at in
     subst (λ (hub : HubState). is_complete hub.script hub.journal ≡ true) c.self-2.view_is
     (complete (the_view c.self-2.inside) c.self-2.inside.progress.items c.self-2.invariant.0
-      (subst (λ (hub : HubState). (j : ℕ) → 1 ≤ j → j ≤ length hub.script.sessions → IsOver hub.script (places_in hub) j) (sym c.self-2.view_is) over))
+    (subst (λ (hub : HubState). (j : ℕ) → 1 ≤ j → j ≤ length hub.script.sessions → IsOver hub.script (places_in hub) j) (sym c.self-2.view_is) over))
 
 pub returns-clause-legal : goal.returns-clause-legal
 returns-clause-legal c = subst (λ (hub : HubState). is_legal hub.script hub.journal ≡ true) c.self-2.view_is c.self-2.invariant.0.legal

@@ -38,8 +38,7 @@ later_step-requires-clause-stood c =
 
 pub invariant_of-self : goal.invariant_of-self
 invariant_of-self c =
-    let q = rw (← c.self.view_is) at c.requires in
-    (
+    let q = rw (← c.self.view_is) at c.requires in (
       keeps_more c.self.inside.script c.self.inside.core c.later_step.new.core c.self.inside.journal.items c.self.inside.kept.items c.self.inside.progress.items _ c.args.session c.self.invariant.0 q.session.from_one q.session.within q.under_way c.in-More.ensures.steps.0 c.in-More.ensures.apart c.in-More.ensures.steps.1,
       c.self.invariant.1,
       c.self.invariant.2,
@@ -56,8 +55,7 @@ pub invariant_of-self-in-Done : goal.invariant_of-self-in-Done
 invariant_of-self-in-Done c =
     let q = rw (← c.self.view_is) at c.requires in
     let old = the_view c.self.inside in
-    let ps = c.self.inside.progress.items in
-    (
+    let ps = c.self.inside.progress.items in (
       done_is old c.later_step.new.core ps c.args.session c.index.result.now c.in-Done.reply c.set_reply.new.kept.items c.self.invariant.0 q.session.from_one q.session.within q.under_way c.index.ensures c.in-Done.ensures.steps.0 c.in-Done.ensures.apart c.in-Done.ensures.steps.1 c.in-Done.ensures.steps.2 c.set_reply.ensures.line,
       c.self.invariant.1,
       omega (arith, c.self.invariant.2, c.set_reply.ensures.room),
@@ -94,8 +92,7 @@ invariant_of-self-in-Memory c =
     let old = the_view c.self.inside in
     let ps = c.self.inside.progress.items in
     let b = wants_of old c.later_step.new.core ps c.args.session c.index.result.now c.self.invariant.0 q.session.from_one q.session.within q.under_way c.index.ensures c.in-Memory.ensures.steps c.in-Memory.ensures.apart in
-    let so = wants_so old c.later_step.new.core ps c.args.session c.index.result.now c.push_entry.new.journal.items c.set_reply-in-Memory.new.kept.items (slice_set ps (c.args.session - 1) (record { begun = c.index.result.now.begun; entry = c.len-entry.result; line = c.index.result.now.line })) c.len-entry.result c.self.invariant.0 q.session.from_one q.session.within c.index.ensures b c.push_entry.ensures.items c.set_reply-in-Memory.ensures.line refl (c.len-entry.ensures ∙ c.self.inside.journal.ok.0) in
-    (
+    let so = wants_so old c.later_step.new.core ps c.args.session c.index.result.now c.push_entry.new.journal.items c.set_reply-in-Memory.new.kept.items (slice_set ps (c.args.session - 1) (record { begun = c.index.result.now.begun; entry = c.len-entry.result; line = c.index.result.now.line })) c.len-entry.result c.self.invariant.0 q.session.from_one q.session.within c.index.ensures b c.push_entry.ensures.items c.set_reply-in-Memory.ensures.line refl (c.len-entry.ensures ∙ c.self.inside.journal.ok.0) in (
       so.keeps,
       omega (arith, c.self.invariant.1, c.push_entry.ensures.room),
       omega (arith, c.self.invariant.2, c.set_reply-in-Memory.ensures.room),
@@ -120,7 +117,7 @@ returns-in-Done-clause-made c =
     let old = the_view c.self.inside in
     let ps = c.self.inside.progress.items in
     rw (← c.self.view_is) (made_done old c.later_step.new.core c.set_reply.new.kept.items ps c.args.session c.index.result.now.entry c.self.invariant.0 q.session.from_one q.session.within q.under_way c.in-Done.ensures.apart c.in-Done.ensures.steps.1
-      (ap (λ (p : Progress). p.entry) (progress_is old ps c.args.session c.index.result.now c.self.invariant.0 q.session.from_one q.session.within c.index.ensures)))
+    (ap (λ (p : Progress). p.entry) (progress_is old ps c.args.session c.index.result.now c.self.invariant.0 q.session.from_one q.session.within c.index.ensures)))
 
 pub returns-in-Done-clause-legal : goal.returns-in-Done-clause-legal
 returns-in-Done-clause-legal c = c.self.invariant.0.legal

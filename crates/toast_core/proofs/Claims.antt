@@ -60,9 +60,11 @@ holder_claimed claims claim q t free =
         let at : q ≡ claim.place = same_place_is q claim.place same in
         let none : holder_of claims q ≡ None = ap (holder_of claims) at ∙ free in
         absurd (cc)
+
     or_false : (b : Bool) → b ≡ (b || false)
     or_false true = refl
     or_false false = refl
+
     by : (held : Option ℕ) (same : Bool) → holder_of claims q ≡ held → same_place q claim.place ≡ same
         → option_map_or (λ holder. holder == t) (elim held [ None ↦ cond same (Some claim.session) None | Some s ↦ Some s ]) false ≡ (option_map_or (λ holder. holder == t) held false || (same && (claim.session == t)))
     by None true held same = refl
@@ -93,14 +95,17 @@ holder_given_up seats s (c ∷ claims) q t sound = by (c.session == s) (same_pla
   where
     none_at : same_place q c.place ≡ true → holder_of claims q ≡ None
     none_at same = ap (holder_of claims) (same_place_is q c.place same) ∙ sound.0
+
     gone : (b : Bool) → (t == s) ≡ b → (c.session == s) ≡ true → false ≡ cond b false (c.session == t)
     gone true e own = refl
     gone false e own =
         let other : (c.session == t) ≡ false = grind (arith, nat_tests, e, own) in
         sym other
+
     kept : (b : Bool) → (t == s) ≡ b → (c.session == s) ≡ false → (c.session == t) ≡ cond b false (c.session == t)
     kept true e other = grind (arith, nat_tests, e, other)
     kept false e other = refl
+
     by : (own same : Bool) → (c.session == s) ≡ own → same_place q c.place ≡ same → is_holder (given_up s claims) q t ≡ cond (t == s) false (is_holder claims q t)
         → is_holder (cond (not own) (c ∷ given_up s claims) (given_up s claims)) q t ≡ cond (t == s) false (option_map_or (λ holder. holder == t) (option_map (λ (c : Claim). c.session) (cond same (Some c) (find (λ (c : Claim). same_place q c.place) claims))) false)
     by true true own same rest =
@@ -121,6 +126,7 @@ claims_push seats (c ∷ claims) claim sound free there = by (same_place claim.p
         let is : c.place ≡ claim.place = same_place_is c.place claim.place e in
         let back : same_place claim.place c.place ≡ true = ap (λ (p : Place). same_place p c.place) (sym is) ∙ ap (λ (p : Place). same_place c.place p) is ∙ e in
         absurd (cc)
+
     by : (same : Bool) → same_place claim.place c.place ≡ same → (holder_of claims claim.place ≡ None → AreClaims seats (claims ++ claim ∷ [])) → option_map (λ (c : Claim). c.session) (cond same (Some c) (find (λ (c : Claim). same_place claim.place c.place) claims)) ≡ None → AreClaims seats ((c ∷ claims) ++ claim ∷ [])
     by true e rest free = absurd (cc)
     by false e rest free = (holder_push claims claim c.place ∙ rw sound.0 (apart (same_place c.place claim.place) refl e), sound.1, rest free)

@@ -23,16 +23,17 @@ use Rattle.toast_core.specs.declared.parts.ReadJob.{ReadJob}
 use Rattle.toast_core.specs.declared.parts.Seat.{Seat}
 use Rattle.toast_core.specs.State.{CoreState, IsSession, seat_of, is_alive, xid_of, own_changes, changes_in, coming}
 use Rattle.toast_core.specs.Events.{seated, after_over, after_submit, after_commit_of, after_giving_up, once_committed, once_aborted, once_released, given_up, first_id}
-use Rattle.toast_core.specs.Sound.{SeatIsSound, IsSound, IsBuilt, AreVersions, AreClaims, is_holder, Owns, AreApart}
+use Rattle.toast_core.specs.Sound.{SeatIsSound, IsSound, IsBuilt, AreVersions, AreClaims, is_holder, Owns, AreApart, reads_committed}
 use Rattle.toast_core.proofs.Tests.{session_commit, session_abort, alive_commit, alive_abort, runs_for}
 use Rattle.toast_core.proofs.Versions.{versions_statuses}
 use Rattle.toast_core.proofs.Claims.{holder_given_up, claims_given_up, claims_seats}
 use Rattle.toast_core.proofs.Seats.{sound_of, each_seated, seat_frame, owns_written, apart_over, apart_written, seat_there}
 
 -- a session's seat with nothing under way, after a command that leaves its transaction
-pub seat_over : (xacts : Xacts) (snaps : Snaps) (claims : List Claim) (versions : List Version) (pieces : List Piece) (s : ℕ) (old : Seat) (state : State) → xid_of state ≡ xid_of old.state → coming old.job ≡ []
+pub seat_over : (xacts : Xacts) (snaps : Snaps) (claims : List Claim) (versions : List Version) (pieces : List Piece) (s : ℕ) (old : Seat) (state : State) → reads_committed state ≡ true → xid_of state ≡ xid_of old.state → coming old.job ≡ []
     → SeatIsSound xacts snaps claims versions pieces s old → SeatIsSound xacts snaps claims versions pieces s (record { state = state; job = jobs.Idle })
-seat_over xacts snaps claims versions pieces s old state same none sound = record {
+seat_over xacts snaps claims versions pieces s old state level same none sound = record {
+  level = level;
   runs = λ xid e. sound.runs xid (sym same ∙ e);
   claimed = λ p. sound.claimed p ∙ ap (λ (changes : List Change). is_named (keys_of changes) p) (ap (λ (more : List Change). own_changes pieces (xid_of old.state) versions ++ more) none ∙ ap (λ (own : Option ℕ). own_changes pieces own versions ++ []) (sym same));
   built = λ command e. absurd (cc);
@@ -50,15 +51,15 @@ owners_same c s state job there same sound xid t runs =
     here is has = sym (ap (option_and_then (λ (seat : Seat). xid_of seat.state)) (ap (λ (n : ℕ). slice_get c.seats (n - 1)) is ∙ seat_there c.seats s there)) ∙ has
 
 -- a command is over
-pub sound_over : (c : CoreState) (s : ℕ) (state : State) → IsSession c.seats s → xid_of state ≡ xid_of (seat_of c s).state → coming (seat_of c s).job ≡ [] → IsSound c → IsSound (after_over c s state)
-sound_over c s state there same none sound = record {
+pub sound_over : (c : CoreState) (s : ℕ) (state : State) → IsSession c.seats s → reads_committed state ≡ true → xid_of state ≡ xid_of (seat_of c s).state → coming (seat_of c s).job ≡ [] → IsSound c → IsSound (after_over c s state)
+sound_over c s state there level same none sound = record {
   schemas = sound.schemas;
   registry = sound.registry;
   claims = claims_seats c.seats _ c.claims (length-set c.seats (s - 1) _) sound.claims;
   versions = sound.versions;
   pieces = sound.pieces;
   each = each_seated c s state jobs.Idle c.xacts c.snaps c.claims c.versions c.pieces there sound
-      (seat_over c.xacts c.snaps c.claims c.versions c.pieces s (seat_of c s) state same none (sound_of c s there sound)) (λ i seat apart at old. old);
+      (seat_over c.xacts c.snaps c.claims c.versions c.pieces s (seat_of c s) state level same none (sound_of c s there sound)) (λ i seat apart at old. old);
   owners = owners_same c s state jobs.Idle there same sound;
   apart = apart_written c.seats s state jobs.Idle (λ k other differ at. apart_over other.job) sound.apart;
 }
@@ -70,6 +71,7 @@ apart_submitted command other = (record { snapshots = λ a b e f. absurd (cc); v
 seat_submitted : (xacts : Xacts) (snaps : Snaps) (claims : List Claim) (versions : List Version) (pieces : List Piece) (s : ℕ) (old : Seat) (command : Command) → IsBuilt command → coming old.job ≡ []
     → SeatIsSound xacts snaps claims versions pieces s old → SeatIsSound xacts snaps claims versions pieces s (record { state = old.state; job = jobs.Submitted command })
 seat_submitted xacts snaps claims versions pieces s old command is_built none sound = record {
+  level = sound.level;
   runs = sound.runs;
   claimed = λ p. sound.claimed p ∙ ap (λ (changes : List Change). is_named (keys_of changes) p) (ap (λ (more : List Change). own_changes pieces (xid_of old.state) versions ++ more) none);
   built = λ other e. subst IsBuilt (submitted_is command other e) is_built;
@@ -122,6 +124,7 @@ others_by xacts new ended s xid t at own differ runs = by (xid == ended) refl at
         let same : session_at xacts ended ≡ Some t = ap (session_at xacts) (sym is) ∙ runs in
         let t_is : t ≡ s = cc in
         differ t_is
+
     by : (b : Bool) → (xid == ended) ≡ b → session_at new xid ≡ cond b None (session_at xacts xid) → session_at new xid ≡ Some t
     by true e at = absurd (clash (grind (arith, nat_tests, e)))
     by false e at = at ∙ runs
@@ -153,9 +156,10 @@ abort_ends xacts (Some own) s runs =
     }
 
 -- a seat whose session has given up all that it had
-seat_ended : (seats : List Seat) (xacts : Xacts) (snaps : Snaps) (claims : List Claim) (versions : List Version) (pieces : List Piece) (s : ℕ) (state : State) → xid_of state ≡ None → AreClaims seats claims
+seat_ended : (seats : List Seat) (xacts : Xacts) (snaps : Snaps) (claims : List Claim) (versions : List Version) (pieces : List Piece) (s : ℕ) (state : State) → reads_committed state ≡ true → xid_of state ≡ None → AreClaims seats claims
     → SeatIsSound xacts snaps (given_up s claims) versions pieces s (record { state = state; job = jobs.Idle })
-seat_ended seats xacts snaps claims versions pieces s state none claims_are = record {
+seat_ended seats xacts snaps claims versions pieces s state level none claims_are = record {
+  level = level;
   runs = λ xid e. absurd (clash xid e);
   claimed = λ p. holder_given_up seats s claims p s claims_are ∙ own (is_holder claims p s) (s == s) refl ∙ ap (λ (own : Option ℕ). is_named (keys_of (own_changes pieces own versions ++ [])) p) (sym none);
   built = λ command e. absurd (cc);
@@ -165,6 +169,7 @@ seat_ended seats xacts snaps claims versions pieces s state none claims_are = re
   where
     clash : (xid : ℕ) → xid_of state ≡ Some xid → ⊥
     clash xid e = absurd (cc)
+
     own : (held b : Bool) → (s == s) ≡ b → cond b false held ≡ false
     own held true e = refl
     own held false e = absurd (grind (arith, nat_tests, e))
@@ -176,17 +181,17 @@ still_registered snaps own other mine differ registered =
     ap is_some (held_at_release snaps own other mine ∙ rw apart refl) ∙ registered
 
 -- the transaction of a session has ended, and all that it held is given up
-sound_ended : (c : CoreState) (s : ℕ) (state : State) (xacts : Xacts) (snaps : Snaps) → IsSession c.seats s → xid_of state ≡ None → IsEnd c.xacts xacts (xid_of (seat_of c s).state) s
+sound_ended : (c : CoreState) (s : ℕ) (state : State) (xacts : Xacts) (snaps : Snaps) → IsSession c.seats s → reads_committed state ≡ true → xid_of state ≡ None → IsEnd c.xacts xacts (xid_of (seat_of c s).state) s
     → IsRegistryOf c.xacts snaps → ((i : ℕ) (seat : Seat) → suc i ≢ s → slice_get c.seats i ≡ Some seat → (job : ReadJob) → seat.job ≡ jobs.Reading job → is_registered c.snaps job.snapshot ≡ true → is_registered snaps job.snapshot ≡ true)
     → IsSound c → IsSound (record c { xacts = xacts; snaps = snaps; claims = given_up s c.claims; seats = seated c.seats s state jobs.Idle })
-sound_ended c s state xacts snaps there none ends registry reads sound = record {
+sound_ended c s state xacts snaps there level none ends registry reads sound = record {
   schemas = sound.schemas;
   registry = ends.registry snaps registry;
   claims = claims_seats c.seats _ (given_up s c.claims) (length-set c.seats (s - 1) _) (claims_given_up c.seats s c.claims sound.claims);
   versions = versions_statuses c.xacts xacts c.pieces c.versions ends.given (λ xid given e. ends.fewer xid e) sound.versions;
   pieces = sound.pieces;
   each = each_seated c s state jobs.Idle xacts snaps (given_up s c.claims) c.versions c.pieces there sound
-      (seat_ended c.seats xacts snaps c.claims c.versions c.pieces s state none sound.claims)
+      (seat_ended c.seats xacts snaps c.claims c.versions c.pieces s state level none sound.claims)
       (λ i seat apart at old. seat_frame c.xacts xacts c.snaps snaps c.claims (given_up s c.claims) c.versions c.pieces (suc i) seat
       (λ xid runs. ends.others xid (suc i) apart runs)
       (λ p. holder_given_up c.seats s c.claims p (suc i) sound.claims ∙ other i apart (is_holder c.claims p (suc i)) (suc i == s) refl)
@@ -201,13 +206,14 @@ sound_ended c s state xacts snaps there none ends registry reads sound = record 
     other : (i : ℕ) → suc i ≢ s → (held b : Bool) → (suc i == s) ≡ b → cond b false held ≡ held
     other i apart held true e = absurd (apart (grind (arith, nat_tests, e)))
     other i apart held false e = refl
+
     here : (t xid : ℕ) → t ≡ s → option_and_then (λ (seat : Seat). xid_of seat.state) (slice_get c.seats (t - 1)) ≡ Some xid → xid_of (seat_of c s).state ≡ Some xid
     here t xid is has = sym (ap (option_and_then (λ (seat : Seat). xid_of seat.state)) (ap (λ (n : ℕ). slice_get c.seats (n - 1)) is ∙ seat_there c.seats s there)) ∙ has
 
 -- a commit
 pub sound_commit : (c : CoreState) (s : ℕ) → IsSession c.seats s → IsSound c → IsSound (after_commit_of c s)
 sound_commit c s there sound =
-    sound_ended c s _ (once_committed c.xacts (xid_of (seat_of c s).state)) c.snaps there refl (commit_ends c.xacts (xid_of (seat_of c s).state) s (sound_of c s there sound).runs)
+    sound_ended c s _ (once_committed c.xacts (xid_of (seat_of c s).state)) c.snaps there refl refl (commit_ends c.xacts (xid_of (seat_of c s).state) s (sound_of c s there sound).runs)
     sound.registry (λ i seat apart at job e registered. registered) sound
 
 -- what a job of a session leaves of the snapshots when it gives up its own
@@ -227,8 +233,8 @@ released c s (jobs.Reading job) there is sound = (
 )
 
 -- an end that does not commit
-pub sound_giving_up : (c : CoreState) (s : ℕ) (state : State) → IsSession c.seats s → xid_of state ≡ None → IsSound c → IsSound (after_giving_up c s state)
-sound_giving_up c s state there none sound =
+pub sound_giving_up : (c : CoreState) (s : ℕ) (state : State) → IsSession c.seats s → reads_committed state ≡ true → xid_of state ≡ None → IsSound c → IsSound (after_giving_up c s state)
+sound_giving_up c s state there level none sound =
     let left = released c s (seat_of c s).job there refl sound in
-    sound_ended c s state (once_aborted c.xacts (xid_of (seat_of c s).state)) (once_released c.snaps (seat_of c s).job) there none
+    sound_ended c s state (once_aborted c.xacts (xid_of (seat_of c s).state)) (once_released c.snaps (seat_of c s).job) there level none
     (abort_ends c.xacts (xid_of (seat_of c s).state) s (sound_of c s there sound).runs) left.0 left.1 sound

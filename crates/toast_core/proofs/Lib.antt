@@ -7,3 +7,10 @@ pub mod Ends
 pub mod Reading
 pub mod Writing
 pub mod Putting
+pub mod Alone
+pub mod Answered
+pub mod Standing
+pub mod Moves
+pub mod Stepping
+pub mod Gathered
+pub mod Lent

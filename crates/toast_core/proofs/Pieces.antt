@@ -1,7 +1,10 @@
 -- Pieces of values: what one more leaves of the others, and where the next one stands.
-use Rattle.std.proofs.Common.{◌≡◌, ◌≢◌, ◌≤◌, ◌<◌, ◌+◌, ◌-◌, ℕ, Bool, true, false, cond, List, [], ◌∷◌, ◌++◌, Option, Some, None, length, take, drop, refl, sym, ap, ◌∙◌, arith, zero, suc, append-nil, append_assoc, length-append}
+use Rattle.std.proofs.Common.{◌≡◌, ◌≢◌, ◌≤◌, ◌<◌, ◌+◌, ◌-◌, ℕ, Bool, true, false, cond, List, [], ◌∷◌, ◌++◌, Option, Some, None, length, take, drop, refl, sym, ap, ◌∙◌, arith, zero, suc, append-nil, append_assoc, length-append, ltb}
 use Rattle.std.specs.Prelude.{◌==◌, slice_index_or, not}
-use Rattle.std.specs.List.{position_or_len}
+use Rattle.std.specs.List.{position_or_len, position_from}
+use Rattle.std.specs.Option.{unwrap_or}
+use Rattle.std.proofs.lemmas.Iterator.Adapters.{position_from-zero}
+use Rattle.std.proofs.lemmas.List.Sums.{prefix_len-le-length}
 use Rattle.std.proofs.lemmas.Bool.Decides.{nat_tests}
 use Rattle.std.proofs.lemmas.List.{take-append-le, drop-append-le}
 use Rattle.toast_core.specs.declared.parts.Piece.{Piece}
@@ -41,12 +44,22 @@ joined_same id piece is = by (piece.value_id == id) refl
 pub front_stays : (n : ℕ) (xs ys : List ℕ) → n ≤ length xs → take n (xs ++ ys) ≡ take n xs
 front_stays n xs ys within = take-append-le n xs ys within
 
+first_or : (n m : ℕ) (b : Bool) → ltb n m ≡ b → n ≤ m → unwrap_or (cond b (Some n) None) m ≡ n
+first_or n m true e h = refl
+first_or n m false e h = grind (arith, nat_tests)
+
+-- the first place that passes, or the length, from what `position` answers
+pub place_from : (p : Piece → Bool) (xs : List Piece) → unwrap_or (position_from p 0 xs) (length xs) ≡ position_or_len p xs
+place_from p xs =
+    ap (λ (o : Option ℕ). unwrap_or o (length xs)) (sym (position_from-zero p xs))
+    ∙ first_or (position_or_len p xs) (length xs) (ltb (position_or_len p xs) (length xs)) refl (prefix_len-le-length (λ x. not (p x)) xs)
+
 -- a stored value whose pieces are there stays with one piece more
 pub value_push : (pieces : List Piece) (piece : Piece) (value : StoredValue) → IsKept pieces value → value_of (pieces ++ piece ∷ []) value ≡ value_of pieces value
 value_push pieces piece values.Null kept = refl
 value_push pieces piece (values.Inline bytes) kept = refl
 value_push pieces piece (values.Cut id size) kept =
-    ap (λ (xs : List ℕ). Some (take size xs)) (joined_push id pieces piece) ∙ ap (λ (xs : List ℕ). Some xs) (front_stays size (joined id pieces) (joined id (piece ∷ [])) kept)
+    ap (λ (xs : List ℕ). Some (take size xs)) (joined_push id pieces piece) ∙ ap (λ (xs : List ℕ). Some xs) (front_stays size (joined id pieces) (joined id (piece ∷ [])) kept.1)
 
 -- and its pieces are there still
 pub kept_push : (pieces : List Piece) (piece : Piece) (value : StoredValue) → IsKept pieces value → IsKept (pieces ++ piece ∷ []) value
@@ -54,7 +67,8 @@ kept_push pieces piece values.Null kept = tt
 kept_push pieces piece (values.Inline bytes) kept = tt
 kept_push pieces piece (values.Cut id size) kept =
     let longer : length (joined id (pieces ++ piece ∷ [])) ≡ length (joined id pieces) + length (joined id (piece ∷ [])) = ap length (joined_push id pieces piece) ∙ length-append (joined id pieces) (joined id (piece ∷ [])) in
-    omega (arith, longer, kept)
+    let enough = kept.1 in
+    (kept.0, omega (arith, longer, enough))
 
 -- no piece has an id that all are below
 pub joined_none : (bound id : ℕ) (pieces : List Piece) → AreBelow bound pieces → bound ≤ id → joined id pieces ≡ []

@@ -63,6 +63,7 @@ id_is_low xacts versions pieces state job writing = by job.value_id refl
   where
     count : length (pieces ++ new_piece pieces job ∷ []) ≡ length pieces + 1
     count = length-append pieces (new_piece pieces job ∷ [])
+
     by : (o : Option ℕ) → job.value_id ≡ o → unwrap_or o (first_id + length pieces) < first_id + length (pieces ++ new_piece pieces job ∷ [])
     by None e = omega (arith, count)
     by (Some id) e =
@@ -110,6 +111,7 @@ seat_piece : (xacts : Xacts) (snaps : Snaps) (claims : List Claim) (versions : L
     → ((job : WriteJob) (id : ℕ) → seat.job ≡ jobs.Writing job → job.value_id ≡ Some id → piece.value_id ≢ id) → AreVersions xacts pieces versions
     → SeatIsSound xacts snaps claims versions pieces t seat → SeatIsSound xacts snaps claims versions (pieces ++ piece ∷ []) t seat
 seat_piece xacts snaps claims versions pieces t seat piece differs versions_are sound = record {
+  level = sound.level;
   runs = sound.runs;
   claimed = λ p. sound.claimed p ∙ ap (λ (changes : List Change). is_named (keys_of (changes ++ coming seat.job)) p) (sym (own_piece (xid_of seat.state)));
   built = sound.built;
@@ -171,6 +173,7 @@ sound_piece_put c s job there is sound =
       pieces = below_push (first_id + length (c.pieces ++ piece ∷ [])) c.pieces piece (below_higher (first_id + length c.pieces) (first_id + length (c.pieces ++ piece ∷ [])) c.pieces (omega (arith, length-append c.pieces (piece ∷ []))) sound.pieces) low;
       each = each_seated c s (seat_of c s).state (jobs.Writing (put_on c.pieces job)) c.xacts c.snaps c.claims c.versions (c.pieces ++ piece ∷ []) there sound
           (record {
+            level = old.level;
             runs = old.runs;
             claimed = λ p. old.claimed p ∙ ap (λ (changes : List Change). is_named (keys_of changes) p) (ap (λ (more : List Change). own_changes c.pieces (xid_of (seat_of c s).state) c.versions ++ more) (ap coming is) ∙ ap (λ (changes : List Change). changes ++ insertion job.place (job.value ∷ []) ∷ []) (sym (own_piece (xid_of (seat_of c s).state))));
             built = λ command e. absurd (cc);
@@ -185,10 +188,12 @@ sound_piece_put c s job there is sound =
     own_piece : (own : Option ℕ) → own_changes (c.pieces ++ new_piece c.pieces job ∷ []) own c.versions ≡ own_changes c.pieces own c.versions
     own_piece None = refl
     own_piece (Some xid) = changes_piece c.xacts c.pieces (new_piece c.pieces job) xid c.versions sound.versions
+
     place_apart : (i : ℕ) → suc i ≢ s → i ≢ s - 1
     place_apart i apart e =
         let low = there.from_one in
         apart (omega (arith, e, low))
+
     some_is : (a b : ℕ) → Some a ≡ Some b → a ≡ b
     some_is a b e = cc
 
@@ -199,13 +204,16 @@ kept_whole xacts versions pieces state job writing finished bytes is cut = by jo
   where
     its : bytes_of job.value ≡ bytes
     its = ap bytes_of is
+
     full : job.written ≡ length bytes
     full =
         let within : job.written ≤ length bytes = rw its at writing.within in
         let over : (is_cut bytes && nat_lt job.written (length bytes)) ≡ false = rw its at finished in
         grind (arith, nat_tests, within, over, cut)
+
     some : 0 < length bytes
     some = grind (arith, nat_tests, cut)
+
     by : (o : Option ℕ) → job.value_id ≡ o → joined (unwrap_or o 0) pieces ≡ bytes
     by None e =
         let none = writing.undrawn e in
@@ -218,12 +226,15 @@ pub version_keeps : (xacts : Xacts) (versions : List Version) (pieces : List Pie
 version_keeps xacts versions pieces state job writing finished None is = (refl, tt)
 version_keeps xacts versions pieces state job writing finished (Some bytes) is = by (is_cut bytes) refl
   where
+    some : (xs : List ℕ) → is_cut xs ≡ true → 0 < length xs
+    some xs cut = grind (arith, nat_tests, cut)
+
     by : (b : Bool) → is_cut bytes ≡ b → (value_of pieces (cond b (values.Cut (unwrap_or job.value_id 0) (length bytes)) (values.Inline bytes)) ≡ Some bytes) × IsKept pieces (cond b (values.Cut (unwrap_or job.value_id 0) (length bytes)) (values.Inline bytes))
     by false e = (refl, tt)
     by true e =
         let whole = kept_whole xacts versions pieces state job writing finished bytes is e in
         let count : length (joined (unwrap_or job.value_id 0) pieces) ≡ length bytes = ap length whole in
-        (ap (λ (xs : List ℕ). Some (take (length bytes) xs)) whole ∙ ap Some (take-length bytes), omega (arith, count))
+        (ap (λ (xs : List ℕ). Some (take (length bytes) xs)) whole ∙ ap Some (take-length bytes), (some bytes e, omega (arith, count)))
 
 -- the changes of a transaction that has put the version of its write
 pub changes_put : (pieces : List Piece) (versions : List Version) (xid : ℕ) (job : WriteJob) → value_of pieces (stored job job.value) ≡ job.value
@@ -250,6 +261,7 @@ seat_version : (xacts : Xacts) (snaps : Snaps) (claims : List Claim) (versions :
     → xid_of seat.state ≢ Some v.inserter → ((job : WriteJob) → seat.job ≡ jobs.Writing job → same_place job.place v.place ≡ false)
     → SeatIsSound xacts snaps claims versions pieces t seat → SeatIsSound xacts snaps claims (versions ++ v ∷ []) pieces t seat
 seat_version xacts snaps claims versions pieces t seat v differ places sound = record {
+  level = sound.level;
   runs = sound.runs;
   claimed = λ p. sound.claimed p ∙ ap (λ (changes : List Change). is_named (keys_of (changes ++ coming seat.job)) p) (sym (changes_other pieces versions (xid_of seat.state) v differ));
   built = sound.built;
@@ -295,6 +307,7 @@ sound_version_put c s job xid there is own finished sound =
       pieces = sound.pieces;
       each = each_seated c s (seat_of c s).state jobs.Idle c.xacts c.snaps c.claims (c.versions ++ version_for job xid ∷ []) c.pieces there sound
           (record {
+            level = old.level;
             runs = old.runs;
             claimed = λ p. old.claimed p ∙ ap (λ (changes : List Change). is_named (keys_of changes) p) (same_changes keeps.0);
             built = λ command e. absurd (cc);
@@ -309,6 +322,7 @@ sound_version_put c s job xid there is own finished sound =
   where
     another : (i : ℕ) → session_at c.xacts xid ≡ Some (suc i) → session_at c.xacts xid ≡ Some s → suc i ≡ s
     another i a b = cc
+
     same_changes : value_of c.pieces (stored job job.value) ≡ job.value → changes_in c.pieces c.versions (seat_of c s) ≡ changes_in c.pieces (c.versions ++ version_for job xid ∷ []) (record { state = (seat_of c s).state; job = jobs.Idle })
     same_changes keeps =
         ap (λ (more : List Change). own_changes c.pieces (xid_of (seat_of c s).state) c.versions ++ more) (ap coming is)
@@ -316,6 +330,7 @@ sound_version_put c s job xid there is own finished sound =
         ∙ sym (changes_put c.pieces c.versions xid job keeps)
         ∙ sym (append-nil _)
         ∙ ap (λ (own : Option ℕ). own_changes c.pieces own (c.versions ++ version_for job xid ∷ []) ++ []) (sym own)
+
     holds : (p : Place) (t : ℕ) → is_holder c.claims p t ≡ true → holder_of c.claims p ≡ Some t
     holds p t e = by (holder_of c.claims p) refl e
       where
@@ -324,6 +339,7 @@ sound_version_put c s job xid there is own finished sound =
         by (Some h) at e =
             let is : h ≡ t = grind (arith, nat_tests, e) in
             ap Some is
+
     places : (i : ℕ) → suc i ≢ s → (p : Place) → is_holder c.claims p (suc i) ≡ true → is_holder c.claims job.place s ≡ true → same_place p job.place ≡ false
     places i apart p theirs ours = by (same_place p job.place) refl
       where

@@ -49,6 +49,7 @@ finds_next pieces snaps state job reading = by (nat_lt at (length (drop job.from
   where
     at : ℕ
     at = position_or_len (λ piece. piece.value_id == job.value_id) (drop job.from pieces)
+
     by : (b : Bool) → nat_lt at (length (drop job.from pieces)) ≡ b → IsNext pieces job
     by true e =
         let within : at < length (drop job.from pieces) = grind (arith, nat_tests, e) in
@@ -129,6 +130,7 @@ reply_gathered pieces snaps state job reading finished =
 seat_reading : (xacts : Xacts) (snaps later : Snaps) (claims : List Claim) (versions : List Version) (pieces : List Piece) (s : ℕ) (old : Seat) (job : ReadJob) → coming old.job ≡ [] → IsReading pieces later old.state job
     → SeatIsSound xacts snaps claims versions pieces s old → SeatIsSound xacts later claims versions pieces s (record { state = old.state; job = jobs.Reading job })
 seat_reading xacts snaps later claims versions pieces s old job none reading sound = record {
+  level = sound.level;
   runs = sound.runs;
   claimed = λ p. sound.claimed p ∙ ap (λ (changes : List Change). is_named (keys_of changes) p) (ap (λ (more : List Change). own_changes pieces (xid_of old.state) versions ++ more) none);
   built = λ command e. absurd (cc);
@@ -229,7 +231,7 @@ sound_last_read c s job there is sound =
       pieces = sound.pieces;
       each = each_seated c s (seat_of c s).state jobs.Idle c.xacts (after_release c.snaps job.snapshot) c.claims c.versions c.pieces there sound
           (seat_frame c.xacts c.xacts c.snaps (after_release c.snaps job.snapshot) c.claims c.claims c.versions c.pieces s (record { state = (seat_of c s).state; job = jobs.Idle }) (λ xid e. e) (λ p. refl) (λ xid given e. e)
-          (λ read e registered. absurd (cc)) sound.versions (seat_over c.xacts c.snaps c.claims c.versions c.pieces s (seat_of c s) (seat_of c s).state refl none (sound_of c s there sound)))
+          (λ read e registered. absurd (cc)) sound.versions (seat_over c.xacts c.snaps c.claims c.versions c.pieces s (seat_of c s) (seat_of c s).state (sound_of c s there sound).level refl none (sound_of c s there sound)))
           (λ i seat apart at old. seat_frame c.xacts c.xacts c.snaps (after_release c.snaps job.snapshot) c.claims c.claims c.versions c.pieces (suc i) seat (λ xid e. e) (λ p. refl) (λ xid given e. e)
           (λ read e registered. still_registered c.snaps job.snapshot read.snapshot own.registered (λ same. held_apart i seat apart at read e same) registered) sound.versions old);
       owners = owners_same c s (seat_of c s).state jobs.Idle there refl sound;

@@ -85,6 +85,7 @@ pub seat_frame : (xacts new : Xacts) (snaps later : Snaps) (claims left : List C
     → ((job : ReadJob) → seat.job ≡ jobs.Reading job → is_registered snaps job.snapshot ≡ true → is_registered later job.snapshot ≡ true)
     → AreVersions xacts pieces versions → SeatIsSound xacts snaps claims versions pieces t seat → SeatIsSound new later left versions pieces t seat
 seat_frame xacts new snaps later claims left versions pieces t seat runs holds fewer reads versions_are sound = record {
+  level = sound.level;
   runs = λ xid e. runs xid (sound.runs xid e);
   claimed = λ p. holds p ∙ sound.claimed p;
   built = sound.built;

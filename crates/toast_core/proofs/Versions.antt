@@ -35,6 +35,7 @@ none_by_less test less p xacts pieces (v ∷ versions) sound fewer none = by (sa
   where
     clash : test v.inserter ≡ true → test v.inserter ≡ false → ⊥
     clash a b = absurd (cc)
+
     by : (same passes passes_less : Bool) → less v.inserter ≡ passes_less → test v.inserter ≡ passes → (less v.inserter ≡ true → test v.inserter ≡ true) → (version_by test p versions ≡ None → version_by less p versions ≡ None) → cond (same && passes) (Some v) (version_by test p versions) ≡ None → cond (same && passes_less) (Some v) (version_by less p versions) ≡ None
     by true true b is at h rest e = absurd (cc)
     by true false true is at h rest e = absurd (clash (h is) at)
@@ -112,10 +113,12 @@ versions_push xacts pieces (w ∷ versions) v sound given kept alone = (
     rest : (b : Bool) → cond b (Some w) (version_by (is_alive xacts) v.place versions) ≡ None → version_by (is_alive xacts) v.place versions ≡ None
     rest true e = absurd (cc)
     rest false e = e
+
     clash : (a b : Bool) → a ≡ true → b ≡ true → cond (a && b) (Some w) (version_by (is_alive xacts) v.place versions) ≡ None → ⊥
     clash true true e h none = absurd (cc)
     clash true false e h none = absurd (cc)
     clash false b e h none = absurd (cc)
+
     apart : (b : Bool) → same_place w.place v.place ≡ b → is_alive xacts w.inserter ≡ true → cond (same_place v.place w.place && is_alive xacts w.inserter) (Some w) (version_by (is_alive xacts) v.place versions) ≡ None → cond (b && is_alive xacts v.inserter) (Some v) None ≡ None
     apart false e alive none = refl
     apart true e alive none =
@@ -159,6 +162,7 @@ rows_changed xacts pieces xid (v ∷ versions) q runs sound rows =
   where
     alone : (xid == v.inserter) ≡ true → same_place q v.place ≡ true → version_by (is_own (Some xid)) q versions ≡ None
     alone own same = own_alone xacts pieces (is_own (Some xid)) q v versions (own_is_alive xacts xid runs) sound (own_is_alive xacts xid runs v.inserter own) same
+
     by : (own same : Bool) → (xid == v.inserter) ≡ own → same_place q v.place ≡ same
         → ((rows : Rows) → map.get (fold_changes (changes_by pieces xid versions) rows) q ≡ option_or (option_map (row_of pieces) (version_by (is_own (Some xid)) q versions)) (map.get rows q))
         → map.get (fold_changes (cond own (insertion v.place (row_of pieces v) ∷ changes_by pieces xid versions) (changes_by pieces xid versions)) rows) q ≡ option_or (option_map (row_of pieces) (cond (same && own) (Some v) (version_by (is_own (Some xid)) q versions))) (map.get rows q)
@@ -182,8 +186,10 @@ own_or_committed xacts pieces xid (v ∷ versions) q runs sound =
   where
     counts : is_committed xacts v.inserter ≡ true → is_alive xacts v.inserter ≡ true
     counts e = rw e (or_true (is_running xacts v.inserter))
+
     alone : is_committed xacts v.inserter ≡ true → same_place q v.place ≡ true → version_by (is_own (Some xid)) q versions ≡ None
     alone committed same = own_alone xacts pieces (is_own (Some xid)) q v versions (own_is_alive xacts xid runs) sound (counts committed) same
+
     by : (same own committed : Bool) → same_place q v.place ≡ same → is_committed xacts v.inserter ≡ committed
         → option_or (option_map (row_of pieces) (version_by (is_own (Some xid)) q versions)) (option_map (row_of pieces) (version_by (is_committed xacts) q versions)) ≡ option_map (row_of pieces) (version_by (in_sight xacts (Some xid)) q versions)
         → option_or (option_map (row_of pieces) (cond (same && own) (Some v) (version_by (is_own (Some xid)) q versions))) (option_map (row_of pieces) (cond (same && committed) (Some v) (version_by (is_committed xacts) q versions))) ≡ option_map (row_of pieces) (cond (same && (own || committed)) (Some v) (version_by (in_sight xacts (Some xid)) q versions))

@@ -27,7 +27,8 @@ use Rattle.toast_core.specs.declared.parts.WriteJob.{WriteJob}
 use Rattle.toast_core.specs.declared.parts.Seat.{Seat}
 use Rattle.toast_core.specs.State.{CoreState, IsSession, seat_of, xid_of, own_changes, changes_by, changes_in, coming, insertion, joined, version_by, is_alive}
 use Rattle.toast_core.specs.Events.{seated, once_assigned, with_xid, bytes_of, is_cut, is_putting, first_id, id_for, next_bytes, put_on, stored, version_for}
-use Rattle.toast_core.specs.Sound.{SeatIsSound, IsSound, IsWriting, IsPut, IsKept, AreVersions, AreBelow, AreApart, Owns, holder_of, is_holder, is_open}
+use Rattle.toast_core.specs.Sound.{SeatIsSound, IsSound, IsWriting, IsPut, IsKept, AreVersions, AreBelow, AreApart, Owns, holder_of, is_holder, is_open, reads_committed}
+use Rattle.command_set.specs.declared.Level.TheVariants.{Rc, Rr}
 use Rattle.toast_core.proofs.Tests.{session_assign, alive_assign, runs_for, same_place_is}
 use Rattle.toast_core.proofs.Pieces.{joined_push, joined_other, joined_same, joined_none, below_higher, below_push}
 use Rattle.toast_core.proofs.Versions.{found_push, changes_push, changes_piece, changes_fresh, versions_piece, versions_push, versions_statuses, none_by_less}
@@ -77,11 +78,14 @@ write_begins xacts None s runs = record {
     here : (b : Bool) → (next_xid xacts == next_xid xacts) ≡ b → cond b (Some s) (session_at xacts (next_xid xacts)) ≡ Some s
     here true e = refl
     here false e = absurd (grind (arith, nat_tests, e))
+
     past : (x t : ℕ) → session_at xacts x ≡ Some t → x ≡ next_xid xacts → ⊥
     past x t e is = not_given xacts (subst (IsAssigned xacts) is (assigned_from_running xacts x (runs_for xacts x t e)))
+
     other : (x t : ℕ) → session_at xacts x ≡ Some t → (b : Bool) → (x == next_xid xacts) ≡ b → cond b (Some s) (session_at xacts x) ≡ Some t
     other x t e true same = absurd (past x t e (grind (arith, nat_tests, same)))
     other x t e false same = e
+
     either : (x t : ℕ) (b : Bool) → (x == next_xid xacts) ≡ b → cond b (Some s) (session_at xacts x) ≡ Some t → ((x ≡ next_xid xacts) × (t ≡ s)) ⊎ (session_at xacts x ≡ Some t)
     either x t true same e = inl (grind (arith, nat_tests, same), cc)
     either x t false same e = inr e
@@ -90,6 +94,12 @@ xid_with : (state : State) (xid : ℕ) → is_open state ≡ true → xid_of (wi
 xid_with states.Outside xid e = absurd (cc)
 xid_with states.Failed xid e = absurd (cc)
 xid_with (states.Open level own) xid e = refl
+
+level_with : (state : State) (xid : ℕ) → reads_committed state ≡ true → reads_committed (with_xid state xid) ≡ true
+level_with states.Outside xid e = refl
+level_with states.Failed xid e = refl
+level_with (states.Open Rc own) xid e = refl
+level_with (states.Open Rr own) xid e = absurd (cc)
 
 -- a write at its moment
 abbrev pub begun_write : Place → Option (List ℕ) → WriteJob
@@ -106,7 +116,7 @@ apart_writing job other differ = (
 )
 
 -- the changes of a transaction that gets its xid are those that it had
-changes_begun : (xacts : Xacts) (pieces : List Piece) (versions : List Version) (own : Option ℕ) (xid : ℕ) → (own ≡ Some xid ⊎ ((own ≡ None) × (¬ (IsAssigned xacts xid)))) → AreVersions xacts pieces versions → changes_by pieces xid versions ≡ own_changes pieces own versions
+pub changes_begun : (xacts : Xacts) (pieces : List Piece) (versions : List Version) (own : Option ℕ) (xid : ℕ) → (own ≡ Some xid ⊎ ((own ≡ None) × (¬ (IsAssigned xacts xid)))) → AreVersions xacts pieces versions → changes_by pieces xid versions ≡ own_changes pieces own versions
 changes_begun xacts pieces versions own xid (inl e) sound = ap (λ (o : Option ℕ). own_changes pieces o versions) (sym e)
 changes_begun xacts pieces versions own xid (inr e) sound = changes_fresh xacts pieces xid versions sound e.1 ∙ ap (λ (o : Option ℕ). own_changes pieces o versions) (sym e.0)
 
@@ -126,6 +136,7 @@ seat_begun c s p value xacts xid there none inside begun free alone sound =
     let old = sound_of c s there sound in
     let has = xid_with (seat_of c s).state xid inside in
     record {
+      level = level_with (seat_of c s).state xid old.level;
       runs = λ x e. subst (λ (n : ℕ). session_at xacts n ≡ Some s) (some_is xid x (sym has ∙ e)) begun.mine;
       claimed = λ q.
           holder_claimed c.claims (record { session = s; place = p }) q s free
@@ -149,6 +160,7 @@ seat_begun c s p value xacts xid there none inside begun free alone sound =
   where
     some_is : (a b : ℕ) → Some a ≡ Some b → a ≡ b
     some_is a b e = cc
+
     itself : (b : Bool) → (s == s) ≡ b → b ≡ true
     itself true e = refl
     itself false e = absurd (grind (arith, nat_tests, e))
@@ -181,19 +193,23 @@ sound_write_begun c s p value xacts xid there none inside begun free alone sound
     another : (i : ℕ) → suc i ≢ s → (b : Bool) → (s == suc i) ≡ b → b ≡ false
     another i apart false e = refl
     another i apart true e = absurd (apart (grind (arith, nat_tests, e)))
+
     and_or : (a b : Bool) → (a || (b && false)) ≡ a
     and_or true true = refl
     and_or true false = refl
     and_or false true = refl
     and_or false false = refl
+
     has : xid_of (with_xid (seat_of c s).state xid) ≡ Some xid
     has = xid_with (seat_of c s).state xid inside
+
     here : (x t : ℕ) → x ≡ xid → t ≡ s → Owns (seated c.seats s (with_xid (seat_of c s).state xid) (jobs.Writing (begun_write p value))) t x
     here x t x_is t_is = rw (x_is, t_is) (record {
       from_one = there.from_one;
       has = ap (option_and_then (λ (seat : Seat). xid_of seat.state)) (seat_there _ s (session_written c.seats s s (with_xid (seat_of c s).state xid) (jobs.Writing (begun_write p value)) there))
           ∙ ap (λ (seat : Seat). xid_of seat.state) (seat_written c.seats s (with_xid (seat_of c s).state xid) (jobs.Writing (begun_write p value)) there) ∙ has;
     })
+
     again : (x t : ℕ) → t ≡ s → Owns c.seats t x → xid_of (with_xid (seat_of c s).state xid) ≡ Some x
     again x t is owns =
         let own : xid_of (seat_of c s).state ≡ Some x = sym (ap (option_and_then (λ (seat : Seat). xid_of seat.state)) (ap (λ (n : ℕ). slice_get c.seats (n - 1)) is ∙ seat_there c.seats s there)) ∙ owns.has in

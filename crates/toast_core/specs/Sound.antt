@@ -12,7 +12,7 @@ use Rattle.snapshot_registry.specs.Laws.{IsRegistryOf}
 use Rattle.command_set.specs.Changes.{keys_of, is_named}
 use Rattle.command_set.specs.declared.Command.{Command}
 use Rattle.command_set.specs.declared.Command.TheVariants as commands
-use Rattle.command_set.specs.declared.Level.TheVariants.{Rc}
+use Rattle.command_set.specs.declared.Level.TheVariants.{Rc, Rr}
 use Rattle.toast_core.specs.declared.parts.StoredValue.{StoredValue}
 use Rattle.toast_core.specs.declared.parts.StoredValue.TheVariants as values
 use Rattle.toast_core.specs.declared.parts.Version.{Version}
@@ -55,11 +55,11 @@ abbrev pub AreClaims : List Seat → List Claim → Type 0
 AreClaims seats [] = Unit {0}
 AreClaims seats (claim ∷ claims) = (holder_of claims claim.place ≡ None) × IsSession seats claim.session × AreClaims seats claims
 
--- a stored value's pieces are there
+-- a stored value's pieces are there, and one in pieces is not empty
 abbrev pub IsKept : List Piece → StoredValue → Type 0
 IsKept pieces values.Null = Unit {0}
 IsKept pieces (values.Inline bytes) = Unit {0}
-IsKept pieces (values.Cut id size) = size ≤ length (joined id pieces)
+IsKept pieces (values.Cut id size) = (0 < size) × (size ≤ length (joined id pieces))
 
 -- each version was put by an xid and has its pieces, and of those at one place at most one is of an xid that has committed or runs
 abbrev pub AreVersions : Xacts → List Piece → List Version → Type 0
@@ -79,6 +79,13 @@ abbrev pub is_open : State → Bool
 is_open states.Outside = false
 is_open states.Failed = false
 is_open (states.Open level xid) = true
+
+-- whether an open transaction reads committed rows, as all do until snapshots are kept for a transaction
+abbrev pub reads_committed : State → Bool
+reads_committed states.Outside = true
+reads_committed states.Failed = true
+reads_committed (states.Open Rc xid) = true
+reads_committed (states.Open Rr xid) = false
 
 -- a read under way: its snapshot is registered, it is not finished, and the pieces that it lacks are there
 pub record IsReading (pieces : List Piece) (snaps : Snaps) (state : State) (job : ReadJob) : Type 0 where
@@ -104,6 +111,7 @@ pub record IsWriting (xacts : Xacts) (versions : List Version) (pieces : List Pi
 
 -- what is true of each session, by its number: its xid runs for it, its claims are the keys that it has changed, and its job is one of these
 pub record SeatIsSound (xacts : Xacts) (snaps : Snaps) (claims : List Claim) (versions : List Version) (pieces : List Piece) (s : ℕ) (seat : Seat) : Type 0 where
+  pub level : reads_committed seat.state ≡ true
   pub runs : (xid : ℕ) → xid_of seat.state ≡ Some xid → session_at xacts xid ≡ Some s
   pub claimed : (p : Place) → is_holder claims p s ≡ is_named (keys_of (changes_in pieces versions seat)) p
   pub built : (command : Command) → seat.job ≡ jobs.Submitted command → IsBuilt command

@@ -125,6 +125,11 @@ EventBy job old s new = Event old s new × (left new s < left old s)
 pub record IsEvent (old : CoreState) (s : ℕ) (new : CoreState) : Type 0 where
   pub by : EventBy (seat_of old s).job old s new
 
+-- a step of what is under way: an event that does what the command asks
+pub record Stepped (old : CoreState) (s : ℕ) (new : CoreState) (advance : Advance) : Type 0 where
+  pub moved : Moved old s new advance
+  pub event : IsEvent old s new
+
 -- a command that ends for want of memory: the core stands for the state in which the session's open transaction has failed
 pub record Falls (old : CoreState) (s : ℕ) (new : CoreState) : Type 0 where
   pub stands : (m : Plain) (replies : List (Option Reply)) → Stands old m replies → Stands new (with_failure m s) replies

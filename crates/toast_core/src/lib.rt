@@ -1,21 +1,32 @@
 //! The store's core: sessions over tables, each command in steps of one event.
 #![tactic(auto)]
 
+mod job;
+mod look;
+mod moments;
 pub mod parts;
+mod stage;
+mod steps;
 
-ghost use Rattle.std.specs.Prelude.{◌≡◌, ◌≤◌, None, IfOk, OnErr, OnOk, false, length, replicate};
+ghost use Rattle.std.specs.Prelude.{◌≡◌, ◌≤◌, [], None, true, IfOk, OnErr, OnOk, false, length, replicate};
 ghost use Rattle.command_set.specs.Journals.{takes_no_memory};
 ghost use Rattle.command_set.specs.Plain.{first_state};
-ghost use Rattle.toast_core.specs.State.{IsSession, nobody, seat_of};
-ghost use Rattle.toast_core.specs.Events.{after_failing, after_submit};
-ghost use Rattle.toast_core.specs.Sound.{AreBuilt, IsBuilt};
+ghost use Rattle.toast_core.specs.State.{IsSession, coming, nobody, seat_of, xid_of};
+ghost use Rattle.toast_core.specs.Events.{after_failing, after_giving_up, after_submit, failed_state};
+ghost use Rattle.toast_core.specs.Sound.{AreBuilt, IsBuilt, IsSound, reads_committed};
+ghost use Rattle.toast_core.specs.Looks.{StageIs};
 ghost use Rattle.toast_core.specs.Stands.{Falls, IsEvent, Moved, OthersStay, Stands, StandsOn, under_of, wants_none};
 
+use crate::job::{copy_of_command, end, stage_of};
+use crate::look::{abort_xact, give_up_claims, own_xid, release_snapshot};
 use crate::parts::{Claim, Job, PieceList, Seat, State, VersionList};
+use crate::stage::Stage;
 use command_set::{Command, Reply, SchemaList};
+use list_facts::ListOf;
 use snapshot_registry::SnapRegistry;
 use std::alloc::{AllocError, Global};
 use std::marker::Model;
+use tuple_layout::{Schema, SchemaFault};
 use xact_status::XactTable;
 
 /// What an advance of a session has come to.
@@ -69,6 +80,55 @@ impl Model for Core {
     ghost invariant = { λ core. IsSound (record { schemas = core.schemas; xacts = core.xacts; snaps = core.snaps; claims = core.claims.items; versions = core.versions; pieces = core.pieces; seats = core.seats.items }) };
 }
 
+// What a session is in once an open transaction of it has failed.
+fn failed(state: State) -> State
+    ensures { result ≡ failed_state state }
+{
+    match state {
+        State::Open { level: _, xid: _ } => State::Failed,
+        State::Outside => State::Outside,
+        State::Failed => State::Failed,
+    }
+}
+
+// A copy of a schema.
+fn copy_of_schema(alloc: Global, schema: &Schema) -> Result<Schema, AllocError>
+    ensures { IfOk result (λ copy. copy ≡ schema.now) }
+{
+    match Schema::new(alloc, schema.storages()) {
+        Ok(copy) => Ok(copy),
+        Err(SchemaFault::Memory) => Err(AllocError),
+        Err(SchemaFault::Count { got: _ }) => Err(AllocError),
+    }
+}
+
+// A copy of schemas.
+fn copy_of_schemas(alloc: Global, schemas: &SchemaList) -> Result<SchemaList, AllocError>
+    ensures { IfOk result (λ copy. copy ≡ schemas.now) }
+{
+    let mut copies = ListOf::new(alloc);
+    let schemas = schemas.as_slice();
+    for schema in schemas {
+        let copy = copy_of_schema(alloc, schema)?;
+        copies.push(copy)?;
+    }
+    Ok(copies)
+}
+
+// The seats of so many sessions, which are in no transaction.
+fn empty_seats(alloc: Global, sessions: u16) -> Result<Vec<Seat>, AllocError>
+    ensures { IfOk result (λ seats. seats.items ≡ replicate sessions nobody) }
+{
+    let mut seats = Vec::new(alloc);
+    for _ in 0..sessions {
+        seats.push(Seat {
+            state: State::Outside,
+            job: Job::Idle,
+        })?;
+    }
+    Ok(seats)
+}
+
 impl Core {
     /// An empty store, whose sessions are in no transaction.
     pub fn new(alloc: Global, setup: &Setup) -> Result<Core, AllocError>
@@ -76,12 +136,21 @@ impl Core {
         requires tables { length setup.now.schemas ≤ 16 }
         requires built { AreBuilt setup.now.schemas }
         requires sessions { setup.now.sessions ≤ 64 }
-        requires stub { ⊥ }
         ensures schemas { IfOk result (λ core. core.schemas ≡ setup.now.schemas) }
         ensures seats { IfOk result (λ core. core.seats ≡ replicate setup.now.sessions nobody) }
         ensures stands { IfOk result (λ core. Stands core (first_state setup.now.sessions) (replicate setup.now.sessions None)) }
     {
-        unreachable!()
+        let schemas = copy_of_schemas(alloc, &setup.schemas)?;
+        let seats = empty_seats(alloc, setup.sessions)?;
+        Ok(Core {
+            schemas,
+            xacts: XactTable::new(alloc),
+            snaps: SnapRegistry::new(alloc),
+            claims: Vec::new(alloc),
+            versions: ListOf::new(alloc),
+            pieces: ListOf::new(alloc),
+            seats,
+        })
     }
 
     /// Submits a command to a session that has none under way. The command is copied.
@@ -92,7 +161,6 @@ impl Core {
         requires session { IsSession self.old.seats session }
         requires idle { (seat_of self.old session).job ≡ Job.Idle }
         requires built { IsBuilt command.now }
-        requires stub { ⊥ }
         ensures ok { OnOk result (self.new ≡ after_submit self.old session command.now) }
         ensures stands { OnOk result (StandsOn self.old self.new) }
         ensures err { OnErr result (self.new ≡ after_failing self.old session) }
@@ -100,7 +168,33 @@ impl Core {
         ensures wanted { OnErr result (takes_no_memory command.now ≡ false) }
         ensures others { OthersStay self.old session self.new }
     {
-        unreachable!()
+        match copy_of_command(command) {
+            Ok(copy) => {
+                self.begin_command(session, copy);
+                Ok(())
+            }
+            Err(fault) => {
+                self.fail(session);
+                Err(fault)
+            }
+        }
+    }
+
+    // Puts a command under way.
+    fn begin_command(&mut self, session: u16, command: Command)
+        requires session { IsSession self.old.seats session }
+        requires idle { (seat_of self.old session).job ≡ Job.Idle }
+        requires built { IsBuilt command }
+        ensures after { self.new ≡ after_submit self.old session command }
+        ensures stands { StandsOn self.old self.new }
+        ensures others { OthersStay self.old session self.new }
+    {
+        let at = usize::from(session - 1);
+        let state = self.seats[at].state;
+        self.seats[at] = Seat {
+            state,
+            job: Job::Submitted(command),
+        };
     }
 
     /// Makes one event of a session's command, if one is under way.
@@ -109,7 +203,6 @@ impl Core {
     /// Begin, commit and rollback take none.
     pub fn advance(&mut self, session: u16) -> Result<Advance, AllocError>
         requires session { IsSession self.old.seats session }
-        requires stub { ⊥ }
         ensures moved { IfOk result (Moved self.old session self.new) }
         ensures event { OnOk result (IsEvent self.old session self.new) }
         ensures err { OnErr result (self.new ≡ after_failing self.old session) }
@@ -117,15 +210,68 @@ impl Core {
         ensures wanted { OnErr result (wants_none (seat_of self.old session).job ≡ false) }
         ensures others { OthersStay self.old session self.new }
     {
-        unreachable!()
+        match self.step(session) {
+            Ok(advance) => Ok(advance),
+            Err(fault) => {
+                self.fail(session);
+                Err(fault)
+            }
+        }
     }
 
     /// What a session has under way.
     pub fn busy_with(&self, session: u16) -> Under
-        requires session { IsSession self.now.seats session }
-        requires stub { ⊥ }
+        requires { IsSession self.now.seats session }
         ensures { result ≡ under_of (seat_of self.now session).job }
     {
-        unreachable!()
+        let _ = &self.claims;
+        match &self.seats[usize::from(session - 1)].job {
+            Job::Idle => Under::Nothing,
+            Job::Submitted(_) => Under::Data,
+            Job::Reading(_) => Under::Data,
+            Job::Writing(_) => Under::Data,
+        }
+    }
+
+    // What a session is in.
+    fn state(&self, session: u16) -> State
+        requires { IsSession self.now.seats session }
+        ensures state { result ≡ (seat_of self.now session).state }
+        ensures sound { IsSound self.now }
+    {
+        self.seats[usize::from(session - 1)].state
+    }
+
+    // What a session is to do next.
+    fn stage(&self, session: u16) -> Stage
+        requires { IsSession self.now.seats session }
+        ensures { StageIs (seat_of self.now session).job result }
+    {
+        stage_of(&self.seats[usize::from(session - 1)].job)
+    }
+
+    // Ends a session's transaction without a commit, and what it has under way, and leaves it in this.
+    fn give_up(&mut self, session: u16, state: State)
+        requires session { IsSession self.old.seats session }
+        requires level { reads_committed state ≡ true }
+        requires none { xid_of state ≡ None }
+        ensures { self.new ≡ after_giving_up self.old session state }
+    {
+        let at = usize::from(session - 1);
+        abort_xact(&mut self.xacts, own_xid(self.seats[at].state));
+        release_snapshot(&mut self.snaps, &self.seats[at].job);
+        give_up_claims(&mut self.claims, session);
+        end(&mut self.seats[at], state);
+    }
+
+    // Ends a session's command, and its open transaction as a failed one.
+    fn fail(&mut self, session: u16)
+        requires { IsSession self.old.seats session }
+        ensures after { self.new ≡ after_failing self.old session }
+        ensures falls { Falls self.old session self.new }
+        ensures others { OthersStay self.old session self.new }
+    {
+        let state = failed(self.state(session));
+        self.give_up(session, state);
     }
 }

@@ -1,7 +1,7 @@
 //! What a core keeps: row versions, pieces of long values, claims, and each session with its job.
 
-use list_facts::ListOf;
 use command_set::{Command, Level};
+use list_facts::ListOf;
 use snapshot_registry::SnapId;
 use tuple_layout::{Bytes, Place};
 

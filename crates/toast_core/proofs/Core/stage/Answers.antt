@@ -1,0 +1,18 @@
+use Rattle.std.proofs.Common.{◌≡◌, ◌∙◌, ◌++◌, ◌∷◌, ◌-◌, ◌+◌, ◌≤◌, ℕ, ℤ, List, [], Option, Some, None, length, slice_set, ap, sym, subst, refl}
+use Rattle.toast_core.specs.contracts.Core.{the_view}
+use Rattle.toast_core.specs.State.{CoreState, IsSession, seat_of, coming, xid_of}
+use Rattle.toast_core.specs.Events.{seated, read_in, write_in, gathered, put_on, after_giving_up, after_failing, bytes_of}
+use Rattle.toast_core.specs.Sound.{IsSound, is_open, reads_committed}
+use Rattle.toast_core.specs.declared.parts.Seat.{Seat}
+use Rattle.toast_core.specs.declared.parts.State.{State}
+use Rattle.toast_core.specs.declared.parts.Job.{Job}
+use Rattle.toast_core.specs.declared.parts.Job.TheVariants as jobs
+use Rattle.toast_core.proofs.Seats.{sound_of}
+use Rattle.toast_core.proofs.Lent.{lent_seat, failed_inside, open_inside, open_is, xid_is, begin_level, one_value, only_row, pieces_kept, obstacle_is, no_obstacle, held_by, can_gather, can_write, piece_fits, not_yet, already}
+use Rattle.toast_core.proofs.Core.stage.Goals as goal
+
+pub stage_of-requires : goal.stage_of-requires
+stage_of-requires c = λ command e.
+    let there = subst (λ (v : CoreState). IsSession v.seats c.args.session) (sym c.self.view_is) c.requires in
+    let seat = lent_seat (the_view c.self.inside) c.args.session c.from.result c.index.result.now there c.from.ensures c.index.ensures in
+    (sound_of (the_view c.self.inside) c.args.session there c.self.invariant).built command (ap (λ (x : Seat). x.job) (sym seat) ∙ e)

@@ -5,6 +5,8 @@ mod hub;
 mod print;
 mod replay;
 mod steps;
+#[cfg(test)]
+mod tests;
 
 pub use hub::{Hub, KeptLine, Progress, Turn};
 pub use replay::toast_replay;

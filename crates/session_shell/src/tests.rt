@@ -8,12 +8,43 @@ const FIRST: &str = "table e\nsession\nbegin rc\ninsert t1 1 x010203\nget t1 1\n
 
 const FIRST_REPLIES: &str = "s1.1 ok\ns1.2 ok\ns1.3 row 1 x010203\ns1.4 ok\n";
 
+// Three sessions: a row is claimed before it is whole, seen once it is committed, and refused to a third.
+const THREE: &str = "table e
+session
+begin rc
+insert t1 1 c4.0
+commit
+session
+begin rc
+get t1 1
+get t1 1
+commit
+session
+begin rc
+insert t1 1 x00
+commit
+go 1! 1 2! 2! 3! 3! 1! 1! 2! 2!
+";
+
+const THREE_REPLIES: &str = "s1.1 ok
+s1.2 ok
+s2.1 ok
+s2.2 none
+s3.1 ok
+s3.2 busy s1
+s1.3 ok
+s2.3 row 1 x00010203
+s2.4 ok
+s3.3 rolled back
+";
+
 #[test]
 fn scripts_are_replayed(rt: HostRuntime) -> Result<(), Fail> {
     let alloc = rt.alloc();
     let words = words_of(alloc, &["replay"])?;
     for (script, status, replies) in [
         (FIRST, Status::Done, FIRST_REPLIES),
+        (THREE, Status::Done, THREE_REPLIES),
         (
             "table e\nsession\nbegin rc\ninsert t1 1 x010203\nget t1 1\ninsert t1 1 x00\ncommit\n",
             Status::Done,
@@ -24,6 +55,21 @@ fn scripts_are_replayed(rt: HostRuntime) -> Result<(), Fail> {
             Status::Done,
             "s1.1 ok\ns1.2 none\ns1.3 ok\ns1.4 row 0 xabcd\n",
         ),
+        (
+            "table e # one column\r\n\n\tsession\nbegin   rc\ninsert t1 1 null\nget t1 1\nrollback",
+            Status::Done,
+            "s1.1 ok\ns1.2 ok\ns1.3 row 1 null\ns1.4 ok\n",
+        ),
+        (
+            "session\nbegin rc\nsession\ncommit\ngo 2\n",
+            Status::Done,
+            "s2.1 outside\ns1.1 ok\n",
+        ),
+        (
+            "session\nbegin rc\ncommit\nsession\nbegin rc\ncommit\nloop 2 2*1 1\n",
+            Status::Done,
+            "s2.1 ok\ns1.1 ok\ns2.2 ok\ns1.2 ok\n",
+        ),
         ("", Status::Done, ""),
         ("table e\n", Status::Done, ""),
         ("session\ncommit\n", Status::Done, "s1.1 outside\n"),
@@ -33,38 +79,16 @@ fn scripts_are_replayed(rt: HostRuntime) -> Result<(), Fail> {
             Status::BadScript { line: 4 },
             "",
         ),
-        (
-            "table e\nsession\nget t1 01\n",
-            Status::BadScript { line: 3 },
-            "",
-        ),
-        (
-            "table e\nsession\nget t1 -0\n",
-            Status::BadScript { line: 3 },
-            "",
-        ),
-        (
-            "table e\nsession\nget t1 9223372036854775808\n",
-            Status::BadScript { line: 3 },
-            "",
-        ),
-        (
-            "table e\nsession\nget  t1 1\n",
-            Status::BadScript { line: 3 },
-            "",
-        ),
-        (
-            "table e\nsession\ninsert t1 0 x012\n",
-            Status::BadScript { line: 3 },
-            "",
-        ),
+        ("session\ngo 2\n", Status::BadScript { line: 2 }, ""),
     ] {
         let bytes = Bytes::from_slice(alloc, script.as_bytes())?;
         let mut source = MemSource::new(alloc, bytes, 7, CallList::new(alloc));
-        let mut sink = MemSink::new(alloc, 100, CallList::new(alloc))?;
-        let answer = toast_replay(alloc, &words, &mut source, &mut sink);
+        let mut sink = MemSink::new(alloc, 1000, CallList::new(alloc))?;
+        let mut kept = None;
+        let answer = toast_replay(alloc, &words, &mut source, &mut sink, &mut kept);
         assert_eq!(rt; answer, status, "{script}");
         assert_eq!(rt; sink.written(), replies.as_bytes(), "{script}");
+        assert_eq!(rt; kept.is_some(), status == Status::Done, "{script}");
     }
     Ok(())
 }
@@ -99,10 +123,47 @@ fn words_sources_and_sinks_are_refused(rt: HostRuntime) -> Result<(), Fail> {
             CallList::from_slice(alloc, &[read_fails])?,
         );
         let mut sink = MemSink::new(alloc, room, CallList::from_slice(alloc, &[write_fails])?)?;
-        let answer = toast_replay(alloc, &words, &mut source, &mut sink);
+        let mut kept = None;
+        let answer = toast_replay(alloc, &words, &mut source, &mut sink, &mut kept);
         assert_eq!(rt; answer, status);
         assert_eq!(rt; sink.written(), written.as_bytes());
     }
+    Ok(())
+}
+
+#[test]
+fn the_longest_script_is_read_and_no_longer_one(rt: HostRuntime) -> Result<(), Fail> {
+    let alloc = rt.alloc();
+    let words = words_of(alloc, &["replay"])?;
+    for (count, status) in [(4_194_304, Status::Done), (4_194_305, Status::TooLong)] {
+        let bytes = Bytes::from_vec(vec![in alloc; b'\n'; count]?);
+        let mut source = MemSource::new(alloc, bytes, 65_536, CallList::new(alloc));
+        let mut sink = MemSink::new(alloc, 10, CallList::new(alloc))?;
+        let mut kept = None;
+        let answer = toast_replay(alloc, &words, &mut source, &mut sink, &mut kept);
+        assert_eq!(rt; answer, status);
+        assert_eq!(rt; sink.written(), b"".as_slice());
+    }
+    Ok(())
+}
+
+#[test]
+fn as_many_sessions_as_there_may_be_take_turns(rt: HostRuntime) -> Result<(), Fail> {
+    let alloc = rt.alloc();
+    let words = words_of(alloc, &["replay"])?;
+    let mut script = String::new(alloc);
+    for _ in 0..64 {
+        script.push_str("session\nbegin rc\n")?;
+    }
+    script.push_str("go 64 1\n")?;
+    let bytes = Bytes::from_slice(alloc, script.as_bytes())?;
+    let mut source = MemSource::new(alloc, bytes, 100, CallList::new(alloc));
+    let mut sink = MemSink::new(alloc, 1000, CallList::new(alloc))?;
+    let mut kept = None;
+    let answer = toast_replay(alloc, &words, &mut source, &mut sink, &mut kept);
+    assert_eq!(rt; answer, Status::Done);
+    assert!(rt; sink.written().starts_with(b"s64.1 ok\ns1.1 ok\ns2.1 ok\n"));
+    assert!(rt; sink.written().ends_with(b"s62.1 ok\ns63.1 ok\n"));
     Ok(())
 }
 

@@ -2,12 +2,6 @@ use Rattle.std.proofs.lemmas.Result.{err_from_is_err_and}
 use Rattle.session_shell.proofs.Cores.{began, falls_on}
 use Rattle.session_shell.proofs.steps.begin.Goals as goal
 
-pub submit-requires-clause-stub : goal.submit-requires-clause-stub
-submit-requires-clause-stub c = ?
-
-pub advance-requires-clause-stub : goal.advance-requires-clause-stub
-advance-requires-clause-stub c = ?
-
 -- the want came after the submission
 pub returns-in_err-made-clause-falls : goal.returns-in_err-made-clause-falls
 returns-in_err-made-clause-falls c =

@@ -1,9 +1,6 @@
 use Rattle.session_shell.proofs.Cores.{advanced, done_later, later_never_idle, more_later}
 use Rattle.session_shell.proofs.steps.later_step.Goals as goal
 
-pub advance-requires-clause-stub : goal.advance-requires-clause-stub
-advance-requires-clause-stub c = ?
-
 pub unreachable-requires : goal.unreachable-requires
 unreachable-requires c =
     let steps = advanced c.args.core.now c.advance.new.self c.args.session _ c.requires.under_way c.in-Ok-Idle.ensures.moved c.in-Ok-Idle.ensures.event in

@@ -6,9 +6,6 @@ use Rattle.session_shell.proofs.News.{idle_of, past_of}
 use Rattle.session_shell.proofs.Finishing.{ends_idle, ends_whole}
 use Rattle.session_shell.proofs.hub.Hub.end_session.Goals as goal
 
-pub busy_with-requires-clause-stub : goal.busy_with-requires-clause-stub
-busy_with-requires-clause-stub c = ?
-
 pub returns-in-Nothing : goal.returns-in-Nothing
 returns-in-Nothing c =
     let q = rw (← c.self.view_is) at c.requires in

@@ -5,11 +5,8 @@ use Rattle.toast_core.specs.State.{seat_of}
 use Rattle.session_shell.proofs.News.{idle_of, idle_not_past, past_of}
 use Rattle.session_shell.proofs.hub.Hub.turn.Goals as goal
 
-pub busy_with-requires-clause-stub : goal.busy_with-requires-clause-stub
-busy_with-requires-clause-stub c = ?
-
-pub busy_with-requires-clause-session : goal.busy_with-requires-clause-session
-busy_with-requires-clause-session c =
+pub busy_with-requires : goal.busy_with-requires
+busy_with-requires c =
     let q = rw (← c.self.view_is) at c.requires in
     record { from_one = q.from_one; within = omega (arith, q.within, c.self.invariant.0.seats) }
 

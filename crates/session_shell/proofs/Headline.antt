@@ -24,10 +24,10 @@ has_run script a b c own empty places r f legal complete =
         finishing = f.turns;
         entries = sym (all.journal ∙ ap (λ (es : List JournalEntry). es ++ entries_of (r.turns ++ f.turns)) empty);
         each = subst (λ (ps : List Place). AreTurns script (first_run script) ps (r.turns ++ f.turns)) places
-          (subst (λ (js : List JournalEntry). AreTurns script (run_of script js) (places_in a) (r.turns ++ f.turns)) empty
+            (subst (λ (js : List JournalEntry). AreTurns script (run_of script js) (places_in a) (r.turns ++ f.turns)) empty
             (subst (λ (s : Script). AreTurns s (run_of s a.journal) (places_in a) (r.turns ++ f.turns)) own all.each));
         schedule = subst (λ (s : Script). AreOfItems (items_of s.schedule) r.turns) own r.each;
         finish = subst (λ (ps : List Place). Finishes script ps f.turns) (r.ran.places ∙ ap (λ (ps : List Place). after_turns ps r.turns) places)
-          (subst (λ (s : Script). Finishes s (places_in b) f.turns) (r.ran.script ∙ own) f.finish);
+            (subst (λ (s : Script). Finishes s (places_in b) f.turns) (r.ran.script ∙ own) f.finish);
       };
     }

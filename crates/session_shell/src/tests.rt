@@ -9,10 +9,11 @@ const FIRST: &str = "table e\nsession\nbegin rc\ninsert t1 1 x010203\nget t1 1\n
 const FIRST_REPLIES: &str = "s1.1 ok\ns1.2 ok\ns1.3 row 1 x010203\ns1.4 ok\n";
 
 // Three sessions: a row is claimed before it is whole, seen once it is committed, and refused to a third.
+// Its value is cut into two pieces.
 const THREE: &str = "table e
 session
 begin rc
-insert t1 1 c4.0
+insert t1 1 c2500.0
 commit
 session
 begin rc
@@ -26,17 +27,11 @@ commit
 go 1! 1 2! 2! 3! 3! 1! 1! 2! 2!
 ";
 
-const THREE_REPLIES: &str = "s1.1 ok
-s1.2 ok
-s2.1 ok
-s2.2 none
-s3.1 ok
-s3.2 busy s1
-s1.3 ok
-s2.3 row 1 x00010203
-s2.4 ok
-s3.3 rolled back
-";
+// The replies before the long row, and those behind it.
+const THREE_BEFORE: &str =
+    "s1.1 ok\ns1.2 ok\ns2.1 ok\ns2.2 none\ns3.1 ok\ns3.2 busy s1\ns1.3 ok\ns2.3 row 1 x";
+
+const THREE_BEHIND: &str = "\ns2.4 ok\ns3.3 rolled back\n";
 
 #[test]
 fn scripts_are_replayed(rt: HostRuntime) -> Result<(), Fail> {
@@ -44,7 +39,6 @@ fn scripts_are_replayed(rt: HostRuntime) -> Result<(), Fail> {
     let words = words_of(alloc, &["replay"])?;
     for (script, status, replies) in [
         (FIRST, Status::Done, FIRST_REPLIES),
-        (THREE, Status::Done, THREE_REPLIES),
         (
             "table e\nsession\nbegin rc\ninsert t1 1 x010203\nget t1 1\ninsert t1 1 x00\ncommit\n",
             Status::Done,
@@ -144,6 +138,23 @@ fn the_longest_script_is_read_and_no_longer_one(rt: HostRuntime) -> Result<(), F
         assert_eq!(rt; answer, status);
         assert_eq!(rt; sink.written(), b"".as_slice());
     }
+    Ok(())
+}
+
+#[test]
+fn three_sessions_take_turns_as_the_schedule_says(rt: HostRuntime) -> Result<(), Fail> {
+    let alloc = rt.alloc();
+    let words = words_of(alloc, &["replay"])?;
+    let bytes = Bytes::from_slice(alloc, THREE.as_bytes())?;
+    let mut source = MemSource::new(alloc, bytes, 100, CallList::new(alloc));
+    let mut sink = MemSink::new(alloc, 6000, CallList::new(alloc))?;
+    let mut kept = None;
+    let answer = toast_replay(alloc, &words, &mut source, &mut sink, &mut kept);
+    assert_eq!(rt; answer, Status::Done);
+    assert!(rt; sink.written().starts_with(THREE_BEFORE.as_bytes()));
+    assert!(rt; sink.written().ends_with(THREE_BEHIND.as_bytes()));
+    let digits = sink.written().len() - THREE_BEFORE.len() - THREE_BEHIND.len();
+    assert_eq!(rt; digits, 5000);
     Ok(())
 }
 

@@ -1,4 +1,7 @@
-pub mod Script
 pub mod Lines
-pub mod Parsed
+pub mod Hubs
+pub mod Steps
+pub mod Turns
+pub mod Follows
+pub mod Text
 pub mod Replay

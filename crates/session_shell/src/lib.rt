@@ -1,12 +1,14 @@
 //! The session shell: from a script's bytes to the printed replies of its commands.
 #![tactic(auto)]
 
-mod parse;
+mod hub;
 mod print;
 mod replay;
+mod steps;
 #[cfg(test)]
 mod tests;
 
+pub use hub::{Hub, KeptLine, Progress, Turn};
 pub use replay::toast_replay;
 pub use toast_io::{Bytes, BytesList};
 

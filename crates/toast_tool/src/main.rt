@@ -24,7 +24,8 @@ fn run(rt: &(impl AllocGlobal + Env + Input + Print)) -> Status {
     };
     let mut source = StdSource::new(rt.reader());
     let mut sink = StdSink::new(io::writer(rt));
-    toast_replay(rt.alloc(), &words, &mut source, &mut sink)
+    let mut kept = None;
+    toast_replay(rt.alloc(), &words, &mut source, &mut sink, &mut kept)
 }
 
 // The words behind the program's name.

@@ -1,12 +1,15 @@
-use Rattle.std.proofs.Common.{sym, subst, refl}
-use Rattle.std.specs.Prelude.{All}
-use Rattle.toast_core.specs.Stands.{IsBuilt}
-use Rattle.session_shell.proofs.Built.{script_built}
-use Rattle.session_shell.proofs.Outcomes.{taken_whole}
+use Rattle.std.proofs.Common.{inl, refl}
+use Rattle.session_shell.proofs.Outcomes.{replays_by, taken_whole}
+use Rattle.session_shell.proofs.Scripted.{script_is}
 use Rattle.session_shell.proofs.replay.replay.Goals as goal
 
-pub transcript-requires : goal.transcript-requires
-transcript-requires g c = subst (All IsBuilt) (sym c.as_slice.ensures) (script_built _ _ c.in-Ok.ensures.reads.script)
+pub run_script-requires : goal.run_script-requires
+run_script-requires g c = script_is _ _ c.in-Ok.ensures.reads.spelled
 
-pub returns-clause-outcome : goal.returns-clause-outcome
-returns-clause-outcome g c = (taken_whole _ _ _ c.in-Ok.ensures.reads.whole, refl)
+-- the script was run, and its lines were printed
+pub returns-in-Ok-run_script-clause-outcome : goal.returns-in-Ok-run_script-clause-outcome
+returns-in-Ok-run_script-clause-outcome g c = replays_by _ c.in-Ok.script c.in-Ok-run_script.hub c.print_hub-status.result c.in-Ok.ensures.reads c.in-Ok-run_script.ensures.run refl c.print_hub-status.ensures.prints
+
+-- there was no memory for a hub
+pub returns-in-Err-run_script-clause-outcome : goal.returns-in-Err-run_script-clause-outcome
+returns-in-Err-run_script-clause-outcome g c = (taken_whole _ _ _ c.in-Ok.ensures.reads.whole, inl (record { same = refl; none = c.requires }))

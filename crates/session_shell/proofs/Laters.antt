@@ -1,0 +1,464 @@
+-- The later steps of a command.
+use Rattle.std.proofs.Common.{◌≡◌, ◌≢◌, ◌<◌, ◌≤◌, ◌+◌, ◌-◌, ◌*◌, ◌⊎◌, inl, inr, ℕ, Bool, true, false, List, [], ◌∷◌, ◌++◌, Option, Some, None, length, get_or, slice_get, slice_set, refl, sym, ap, ◌∙◌, subst, arith, length-append, length-set, eq-eqb, append-nil}
+use Rattle.std.specs.Prelude.{map as mapped, ◌==◌, ◌&&◌, ◌||◌, slice_index_or, if◌then◌else◌}
+use Rattle.std.specs.Option.{option_map, unwrap_or}
+use Rattle.std.specs.List.{sum_by}
+use Rattle.std.proofs.lemmas.Bool.{cases_eq}
+use Rattle.std.proofs.lemmas.Bool.Decides.{nat_tests}
+use Rattle.std.proofs.lemmas.Option.{slice_get_within, same_Some, get_or_from_slice_get, slice_get-map, slice_get-get_or}
+use Rattle.std.proofs.lemmas.List.{map-set, length-map, get_or_read}
+use Rattle.list_facts.proofs.Changed.{get_set_same, get_set_other, get_push_at, set_same}
+use Rattle.command_set.specs.declared.state.Plain.{Plain}
+use Rattle.command_set.specs.declared.journal.Line.{Line}
+use Rattle.command_set.specs.declared.journal.Run.{Run}
+use Rattle.command_set.specs.declared.journal.Told.{Told}
+use Rattle.command_set.specs.declared.Script.{Script}
+use Rattle.command_set.specs.declared.JournalEntry.{JournalEntry}
+use Rattle.command_set.specs.declared.Kind.{Kind}
+use Rattle.command_set.specs.declared.Kind.TheVariants as kinds
+use Rattle.command_set.specs.declared.Command.{Command}
+use Rattle.command_set.specs.declared.Reply.{Reply}
+use Rattle.command_set.specs.declared.Reply.TheVariants as replies
+use Rattle.command_set.specs.Answers.{with_failure}
+use Rattle.command_set.specs.Replies.{is_granted}
+use Rattle.command_set.specs.Journals.{command_at, told_of, told_more, untold, corrected, with_reply, after_entry, run_of, is_legal, is_data, is_run, is_started, may_come_second, may_follow}
+use Rattle.toast_core.specs.declared.parts.Job.{Job}
+use Rattle.toast_core.specs.declared.parts.Job.TheVariants as jobs
+use Rattle.toast_core.specs.declared.parts.Seat.{Seat}
+use Rattle.toast_core.specs.State.{CoreState, seat_of}
+use Rattle.toast_core.specs.Stands.{Stands, Falls, OthersStay, is_past_moment}
+use Rattle.session_shell.specs.declared.hub.KeptLine.{KeptLine}
+use Rattle.session_shell.specs.declared.hub.Progress.{Progress}
+use Rattle.session_shell.specs.declared.hub.Turn.{Turn}
+use Rattle.session_shell.specs.declared.hub.Turn.TheVariants as turns
+use Rattle.session_shell.specs.Hubs.{HubState, IsHub, Keeps, SessionIs, IsBusy, IsBusyBy, IsLine, IsLastEntry, replies_of, progress_of, at_start, kept_of, most_entries}
+use Rattle.session_shell.specs.Lines.{no_line, with_reply as replied}
+use Rattle.session_shell.specs.Steps.{StaysFor, EndsWith}
+use Rattle.session_shell.specs.Turns.{TurnMade, Place, Nothing, More, Ended, end_of, place_after, IsTurn, MakesTurn, Ran, turn_made}
+use Rattle.script_text.specs.Scripts.{command_count}
+use Rattle.session_shell.proofs.Runs.{and_intro, legal_push, may_second, run_push, run_want_later}
+use Rattle.session_shell.proofs.Frames.{told_here, told_there, seat_there, progress_here, progress_there, one_second}
+use Rattle.session_shell.proofs.Kept.{KeptAs, kept_by, said_of, said_idle, said_before, refit}
+use Rattle.session_shell.proofs.Firsts.{busy_past, busy_idle, session_at, entry_stays, stands_forget}
+use Rattle.session_shell.proofs.Made.{fits, named_last, ran_one, others_same, told_get}
+
+-- a command that has passed its moment
+pub busy_of : (script : Script) (s : ℕ) (told : Told) (job : Job) → is_past_moment job ≡ true → IsBusyBy script s told job → IsBusy script s told
+busy_of script s told jobs.Idle past busy = absurd (cc)
+busy_of script s told (jobs.Submitted command) past busy = absurd (cc)
+busy_of script s told (jobs.Reading job) past busy = busy
+busy_of script s told (jobs.Writing job) past busy = busy
+
+-- a session whose job alone has changed
+with_job : (script : Script) (journal : List JournalEntry) (lines : List Line) (s : ℕ) (told : Told) (job job' : Job) (place : Progress) → IsBusyBy script s told job' → SessionIs script journal lines s told job place → SessionIs script journal lines s told job' place
+with_job script journal lines s told job job' place busy h = record {
+  begun = h.begun;
+  within = h.within;
+  busy = busy;
+  quiet = h.quiet;
+  below = h.below;
+  line = h.line;
+  entry = h.entry;
+}
+
+-- what the others' lines say stays
+view_there : (script : Script) (run : Run) (core core' : CoreState) (s : ℕ) (line : Line) → 1 ≤ s → 1 ≤ line.session → line.session ≢ s → OthersStay core s core' → kept_of script run core line ≡ kept_of script run core' line
+view_there script run core core' s line one one' other others =
+    ap (λ (seat : Seat). kept_by script (told_of run line.session).begun seat.job line) (sym (seat_there core core' s line.session one one' other others))
+
+-- a later step without an entry, where the session's job is then this and its lines are kept so
+pub keeps_job : (script : Script) (core core' : CoreState) (journal : List JournalEntry) (kept kept' : List KeptLine) (ps : List Progress) (run : Run) (s : ℕ) →
+    Keeps script core journal kept ps run → 1 ≤ s → s ≤ length script.sessions → StaysFor core core' → OthersStay core s core' →
+    IsBusyBy script s (told_of run s) (seat_of core' s).job → KeptAs kept' (kept_of script run core') run.lines → Keeps script core' journal kept' ps run
+keeps_job script core core' journal kept kept' ps run s h one within stays others busy seen = record {
+  rules = h.rules;
+  schemas = others.schemas ∙ h.schemas;
+  seats = others.count ∙ h.seats;
+  told = h.told;
+  places = h.places;
+  stands = stays.stands run.plain (replies_of run) h.stands;
+  legal = h.legal;
+  lines = seen;
+  from_one = h.from_one;
+  each = λ t one' within'. elim (cases_eq t s) [
+    | inl same ↦ subst (λ (x : ℕ). SessionIs script journal run.lines x (told_of run x) (seat_of core' x).job (progress_of ps x)) (sym same)
+        (with_job script journal run.lines s (told_of run s) (seat_of core s).job (seat_of core' s).job (progress_of ps s) busy (h.each s one within))
+    | inr other ↦ session_at script journal run.lines t (told_of run t) (told_of run t) (seat_of core t).job (seat_of core' t).job (progress_of ps t) (progress_of ps t) refl (ap (λ (seat : Seat). seat.job) (seat_there core core' s t one one' other others)) refl (h.each t one' within')
+  ];
+  entries = h.entries;
+  fewer = h.fewer;
+}
+
+past_same : (script : Script) (begun : ℕ) (job job' : Job) (line : Line) → is_past_moment job ≡ true → is_past_moment job' ≡ true → kept_by script begun job line ≡ kept_by script begun job' line
+past_same script begun job job' line past past' = simp (past, past')
+
+-- a command goes on
+pub keeps_more : (script : Script) (core core' : CoreState) (journal : List JournalEntry) (kept : List KeptLine) (ps : List Progress) (run : Run) (s : ℕ) →
+    Keeps script core journal kept ps run → 1 ≤ s → s ≤ length script.sessions → is_past_moment (seat_of core s).job ≡ true → StaysFor core core' → OthersStay core s core' → is_past_moment (seat_of core' s).job ≡ true →
+    Keeps script core' journal kept ps run
+keeps_more script core core' journal kept ps run s h one within past stays others past' =
+    keeps_job script core core' journal kept kept ps run s h one within stays others
+    (busy_past script s (told_of run s) (seat_of core' s).job past' (busy_of script s (told_of run s) (seat_of core s).job past (h.each s one within).busy))
+    (refit kept (kept_of script run core) (kept_of script run core') run.lines h.lines (λ k line e. elim (cases_eq line.session s) [
+      | inl same ↦ past_same script (told_of run line.session).begun (seat_of core line.session).job (seat_of core' line.session).job line (ap (λ (t : ℕ). is_past_moment (seat_of core t).job) same ∙ past) (ap (λ (t : ℕ). is_past_moment (seat_of core' t).job) same ∙ past')
+      | inr other ↦ view_there script run core core' s line one (h.from_one k line e) other others
+    ]))
+
+other_line : (view view' : Line → KeptLine) (o : Option Line) → ((line : Line) → o ≡ Some line → view line ≡ view' line) → option_map view o ≡ option_map view' o
+other_line view view' None same = refl
+other_line view view' (Some line) same = ap Some (same line refl)
+
+-- one kept line is written
+set_both : (kept : List KeptLine) (view view' : Line → KeptLine) (lines : List Line) (at : ℕ) (line : Line) (x : KeptLine) → KeptAs kept view lines → slice_get lines at ≡ Some line → at < length kept → x ≡ view' line → ((k : ℕ) (l : Line) → slice_get lines k ≡ Some l → k ≢ at → view l ≡ view' l) → KeptAs (slice_set kept at x) view' lines
+set_both kept view view' lines at line x seen there within is others k = elim (cases_eq k at) [
+  | inl same ↦
+      ap (slice_get (slice_set kept at x)) same
+      ∙ get_set_same kept at x within
+      ∙ ap Some is
+      ∙ sym (ap (option_map view') (ap (slice_get lines) same ∙ there))
+  | inr other ↦ get_set_other kept at k x other ∙ seen k ∙ other_line view view' (slice_get lines k) (λ l e. others k l e other)
+]
+
+-- the line of a session's command, its place and what is kept of it
+pub record OwnLine (script : Script) (core : CoreState) (kept : List KeptLine) (run : Run) (s at : ℕ) : Type 0 where
+  pub line : Line
+  pub there : slice_get run.lines at ≡ Some line
+  pub session : line.session ≡ s
+  pub number : line.number ≡ (told_of run s).begun
+  pub only : (k : ℕ) (l : Line) → slice_get run.lines k ≡ Some l → l.session ≡ s → l.number ≡ (told_of run s).begun → k ≡ at
+  pub reply : (told_of run s).reply ≡ Some line.reply
+  pub within : at < length kept
+  pub replied : (reply : Reply) → replied (slice_index_or kept at no_line) (Some reply) ≡ record { session = line.session; number = line.number; reply = Some reply }
+
+kept_within : (kept : List KeptLine) (view : Line → KeptLine) (lines : List Line) (at : ℕ) (line : Line) → KeptAs kept view lines → slice_get lines at ≡ Some line → slice_get kept at ≡ Some (view line)
+kept_within kept view lines at line seen there = seen at ∙ ap (option_map view) there
+
+pub own_line : (script : Script) (core : CoreState) (journal : List JournalEntry) (kept : List KeptLine) (ps : List Progress) (run : Run) (s at : ℕ) → Keeps script core journal kept ps run → 1 ≤ s → s ≤ length script.sessions → IsBusy script s (told_of run s) → (progress_of ps s).line ≡ at → OwnLine script core kept run s at
+own_line script core journal kept ps run s at h one within busy is =
+    let line = subst (λ (k : ℕ). IsLine run.lines k s (told_of run s)) is ((h.each s one within).line busy.begun) in
+    let l : Line = record { session = s; number = (told_of run s).begun; reply = line.reply } in
+    let k = kept_within kept (kept_of script run core) run.lines at l h.lines line.there in
+    record {
+      line = l;
+      there = line.there;
+      session = refl;
+      number = refl;
+      only = line.only;
+      reply = line.answered busy.last;
+      within = slice_get_within kept at (kept_of script run core l) k;
+      replied = λ reply. ap (λ (x : KeptLine). replied x (Some reply)) (get_or_from_slice_get kept at (kept_of script run core l) no_line k);
+    }
+
+own_reply : (run : Run) (s : ℕ) (reply said : Reply) → 1 ≤ s → s ≤ length run.told → (told_of run s).reply ≡ Some said → slice_get (replies_of run) (s - 1) ≡ Some (Some reply) → said ≡ reply
+own_reply run s reply said one within is there =
+    let same : Some (told_of run s).reply ≡ Some (Some reply) = sym (slice_get-map (λ (t : Told). t.reply) run.told (s - 1) ∙ ap (option_map (λ (t : Told). t.reply)) (told_get run.told s one within)) ∙ there in
+    same_Some said reply (sym is ∙ same_Some (told_of run s).reply (Some reply) same)
+
+-- what a line of the session says once its command is over
+over_line : (script : Script) (core core' : CoreState) (kept : List KeptLine) (run run' : Run) (s at k : ℕ) (l : Line) → OwnLine script core kept run s at → (told_of run' s).begun ≡ (told_of run s).begun → (seat_of core' s).job ≡ jobs.Idle → slice_get run.lines k ≡ Some l → k ≢ at → l.session ≡ s → kept_of script run core l ≡ kept_of script run' core' l
+over_line script core core' kept run run' s at k l own begun idle there other same =
+    said_before script (told_of run l.session).begun (seat_of core l.session).job l (λ number. other (own.only k l there same (number ∙ ap (λ (t : ℕ). (told_of run t).begun) same)))
+    ∙ sym (said_idle script (told_of run' l.session).begun (seat_of core' l.session).job l (ap (λ (t : ℕ). (seat_of core' t).job) same ∙ idle))
+
+-- a command is over
+pub keeps_done : (script : Script) (core core' : CoreState) (journal : List JournalEntry) (kept : List KeptLine) (ps : List Progress) (run : Run) (s at : ℕ) (reply : Reply) →
+    Keeps script core journal kept ps run → 1 ≤ s → s ≤ length script.sessions → OwnLine script core kept run s at → StaysFor core core' → OthersStay core s core' → (seat_of core' s).job ≡ jobs.Idle → EndsWith core s reply →
+    Keeps script core' journal (slice_set kept at (replied (slice_index_or kept at no_line) (Some reply))) ps run
+keeps_done script core core' journal kept ps run s at reply h one within own stays others idle ends =
+    let said : own.line.reply ≡ reply = own_reply run s reply own.line.reply one (omega (arith, h.told)) own.reply (ends.said run.plain (replies_of run) h.stands) in
+    keeps_job script core core' journal kept (slice_set kept at (replied (slice_index_or kept at no_line) (Some reply))) ps run s h one within stays others
+    (busy_idle script s (told_of run s) (seat_of core' s).job idle)
+    (set_both kept (kept_of script run core) (kept_of script run core') run.lines at own.line (replied (slice_index_or kept at no_line) (Some reply)) h.lines own.there own.within
+    (own.replied reply
+    ∙ ap (λ (r : Reply). record { session = own.line.session; number = own.line.number; reply = Some r }) (sym said)
+    ∙ sym (said_idle script (told_of run own.line.session).begun (seat_of core' own.line.session).job own.line (ap (λ (t : ℕ). (seat_of core' t).job) own.session ∙ idle)))
+    (λ k l there other. elim (cases_eq l.session s) [
+      | inl same ↦ over_line script core core' kept run run s at k l own refl idle there other same
+      | inr apart ↦ view_there script run core core' s l one (h.from_one k l there) apart others
+    ]))
+
+or_true : (a b : Bool) → b ≡ true → (a || b) ≡ true
+or_true true b e = refl
+or_true false b e = e
+
+-- a line once an entry of the session has corrected it
+corrected_by : (b : Bool) (line : Line) (reply : Reply) → (if b then record line { reply = reply } else line).session ≡ line.session
+corrected_by true line reply = refl
+corrected_by false line reply = refl
+
+corrected_number : (b : Bool) (line : Line) (reply : Reply) → (if b then record line { reply = reply } else line).number ≡ line.number
+corrected_number true line reply = refl
+corrected_number false line reply = refl
+
+-- a line of other lines is not corrected
+corrected_other : (e : JournalEntry) (reply : Reply) (line : Line) → ((line.session ≡ e.session) → (line.number ≡ e.number) → ⊥) → corrected e reply line ≡ line
+corrected_other e reply line other =
+    let no : ((line.session == e.session) && (line.number == e.number)) ≡ false = grind (arith, nat_tests) in
+    ap (λ (b : Bool). if b then record line { reply = reply } else line) no
+
+corrected_own : (e : JournalEntry) (reply : Reply) (line : Line) → line.session ≡ e.session → line.number ≡ e.number → corrected e reply line ≡ record line { reply = reply }
+corrected_own e reply line same number = ap (λ (b : Bool). if b then record line { reply = reply } else line) (and_intro (line.session == e.session) (line.number == e.number) (eq-eqb line.session e.session same) (eq-eqb line.number e.number number))
+
+-- a corrected line, and the one that it was
+record Was (lines : List Line) (k : ℕ) (l : Line) : Type 0 where
+  line : Line
+  there : slice_get lines k ≡ Some line
+  session : l.session ≡ line.session
+  number : l.number ≡ line.number
+
+was_by : (e : JournalEntry) (reply : Reply) (lines : List Line) (k : ℕ) (l : Line) (o : Option Line) → slice_get lines k ≡ o → option_map (corrected e reply) o ≡ Some l → Was lines k l
+was_by e reply lines k l None there is = absurd (cc)
+was_by e reply lines k l (Some line) there is =
+    let same : corrected e reply line ≡ l = same_Some (corrected e reply line) l is in
+    record {
+      line = line;
+      there = there;
+      session = ap (λ (x : Line). x.session) (sym same) ∙ corrected_by ((line.session == e.session) && (line.number == e.number)) line reply;
+      number = ap (λ (x : Line). x.number) (sym same) ∙ corrected_number ((line.session == e.session) && (line.number == e.number)) line reply;
+    }
+
+was : (e : JournalEntry) (reply : Reply) (lines : List Line) (k : ℕ) (l : Line) → slice_get (with_reply lines e reply) k ≡ Some l → Was lines k l
+was e reply lines k l there = was_by e reply lines k l (slice_get lines k) refl (sym (slice_get-map (corrected e reply) lines k) ∙ there)
+
+-- another session once a line has been corrected and an entry added
+session_corrected : (script : Script) (journal : List JournalEntry) (lines : List Line) (e : JournalEntry) (reply : Reply) (t : ℕ) (told : Told) (job : Job) (place : Progress) → e.session ≢ t → SessionIs script journal lines t told job place → SessionIs script (journal ++ e ∷ []) (with_reply lines e reply) t told job place
+session_corrected script journal lines e reply t told job place other h = record {
+  begun = h.begun;
+  within = h.within;
+  busy = h.busy;
+  quiet = h.quiet;
+  below = λ k l there session. let w = was e reply lines k l there in omega (arith, w.number, h.below k w.line w.there (sym w.session ∙ session));
+  line = λ one. let own = h.line one in record {
+    reply = own.reply;
+    there = slice_get-map (corrected e reply) lines place.line ∙ ap (option_map (corrected e reply)) own.there ∙ ap Some (corrected_other e reply (record { session = t; number = told.begun; reply = own.reply }) (λ session number. other (sym session)));
+    answered = own.answered;
+    only = λ k l there session number. let w = was e reply lines k l there in own.only k w.line w.there (sym w.session ∙ session) (sym w.number ∙ number);
+  };
+  entry = λ one. entry_stays journal e place.entry t told.begun other (h.entry one);
+}
+
+-- the session itself
+session_wants : (script : Script) (core : CoreState) (journal : List JournalEntry) (kept : List KeptLine) (run : Run) (s at : ℕ) (job : Job) (place : Progress) →
+    SessionIs script journal run.lines s (told_of run s) job place → (own : OwnLine script core kept run s at) (job' : Job) → job' ≡ jobs.Idle →
+    SessionIs script (journal ++ (record { session = s; number = (told_of run s).begun; kind = kinds.Memory }) ∷ []) (with_reply run.lines (record { session = s; number = (told_of run s).begun; kind = kinds.Memory }) replies.Memory) s (record { begun = (told_of run s).begun; last = Some kinds.Memory; reply = Some own.line.reply }) job' (record { begun = (told_of run s).begun; entry = length journal; line = at })
+session_wants script core journal kept run s at job place h own job' idle =
+    let e : JournalEntry = record { session = s; number = (told_of run s).begun; kind = kinds.Memory } in
+    record {
+      begun = refl;
+      within = h.within;
+      busy = busy_idle script s (record { begun = (told_of run s).begun; last = Some kinds.Memory; reply = Some own.line.reply }) job' idle;
+      quiet = refl;
+      below = λ k l there session. let w = was e replies.Memory run.lines k l there in omega (arith, w.number, h.below k w.line w.there (sym w.session ∙ session));
+      line = λ one. record {
+        reply = replies.Memory;
+        there = slice_get-map (corrected e replies.Memory) run.lines at ∙ ap (option_map (corrected e replies.Memory)) own.there
+            ∙ ap Some (corrected_own e replies.Memory own.line own.session own.number ∙ ap (λ (x : ℕ). record { session = x; number = own.line.number; reply = replies.Memory }) own.session ∙ ap (λ (x : ℕ). record { session = s; number = x; reply = replies.Memory }) own.number);
+        answered = λ run. absurd (cc);
+        only = λ k l there session number. let w = was e replies.Memory run.lines k l there in own.only k w.line w.there (sym w.session ∙ session) (sym w.number ∙ number);
+      };
+      entry = λ one. record {
+        kind = kinds.Memory;
+        there = get_push_at journal e;
+        last = λ k x there session. omega (arith, slice_get_within _ k x there, length-append journal (e ∷ []));
+      };
+    }
+
+map_twice : (view : Line → KeptLine) (f : Line → Line) (o : Option Line) → option_map view (option_map f o) ≡ option_map (λ line. view (f line)) o
+map_twice view f None = refl
+map_twice view f (Some line) = refl
+
+-- want of memory ends a command
+pub keeps_want : (script : Script) (core core' : CoreState) (journal : List JournalEntry) (kept : List KeptLine) (ps : List Progress) (run : Run) (s at : ℕ) →
+    Keeps script core journal kept ps run → run ≡ run_of script journal → 1 ≤ s → s ≤ length script.sessions → IsBusy script s (told_of run s) → (own : OwnLine script core kept run s at) → Falls core s core' → OthersStay core s core' →
+    Keeps script core' (journal ++ (record { session = s; number = (told_of run s).begun; kind = kinds.Memory }) ∷ []) (slice_set kept at (replied (slice_index_or kept at no_line) (Some replies.Memory))) (slice_set ps (s - 1) (record { begun = (told_of run s).begun; entry = length journal; line = at }))
+    (told_more run (record { session = s; number = (told_of run s).begun; kind = kinds.Memory }) (Some own.line.reply) (with_failure run.plain s) (with_reply run.lines (record { session = s; number = (told_of run s).begun; kind = kinds.Memory }) replies.Memory))
+keeps_want script core core' journal kept ps run s at h is one within busy own falls others =
+    let e : JournalEntry = record { session = s; number = (told_of run s).begun; kind = kinds.Memory } in
+    let told : Told = record { begun = (told_of run s).begun; last = Some kinds.Memory; reply = Some own.line.reply } in
+    let run' : Run = told_more run e (Some own.line.reply) (with_failure run.plain s) (with_reply run.lines e replies.Memory) in
+    let told_within : s ≤ length run.told = omega (arith, h.told) in
+    let here : told_of run' s ≡ told = told_here run.told s told one told_within in
+    let begun : (told_of run' s).begun ≡ (told_of run s).begun = ap (λ (t : Told). t.begun) here in
+    let view' = λ (line : Line). kept_of script run' core' (corrected e replies.Memory line) in
+    let stays = stands_forget core' (with_failure run.plain s) (replies_of run) s (Some own.line.reply) falls.over (falls.stands run.plain (replies_of run) h.stands) in
+    let may = or_true (is_started busy.reply) (is_granted busy.reply && is_data busy.command) (and_intro (is_granted busy.reply) (is_data busy.command) busy.granted busy.for_rows) in
+    record {
+      rules = h.rules;
+      schemas = others.schemas ∙ h.schemas;
+      seats = others.count ∙ h.seats;
+      told = length-set run.told (s - 1) told ∙ h.told;
+      places = length-set ps (s - 1) _ ∙ h.places;
+      stands = subst (Stands core' (with_failure run.plain s)) (sym (map-set (λ (t : Told). t.reply) run.told (s - 1) told)) stays;
+      legal = legal_push script journal e h.legal (subst (λ (r : Run). may_follow script r e ≡ true) is (may_second script run s (told_of run s).begun kinds.Memory busy.command busy.reply one refl busy.last busy.answered busy.there may));
+      lines = λ k.
+          set_both kept (kept_of script run core) view' run.lines at own.line (replied (slice_index_or kept at no_line) (Some replies.Memory)) h.lines own.there own.within
+          (own.replied replies.Memory
+          ∙ sym (ap (kept_of script run' core') (corrected_own e replies.Memory own.line own.session own.number)
+          ∙ said_idle script (told_of run' own.line.session).begun (seat_of core' own.line.session).job (record own.line { reply = replies.Memory }) (ap (λ (t : ℕ). (seat_of core' t).job) own.session ∙ falls.over)))
+          (λ i l there other. elim (cases_eq l.session s) [
+            | inl same ↦
+                over_line script core core' kept run run' s at i l own begun falls.over there other same
+                ∙ sym (ap (kept_of script run' core') (corrected_other e replies.Memory l (λ session number. other (own.only i l there same number))))
+            | inr apart ↦
+                view_there script run core core' s l one (h.from_one i l there) apart others
+                ∙ ap (λ (t : Told). kept_by script t.begun (seat_of core' l.session).job l) (sym (told_there run.told s l.session told one (h.from_one i l there) apart))
+                ∙ sym (ap (kept_of script run' core') (corrected_other e replies.Memory l (λ session number. apart session)))
+          ]) k
+          ∙ sym (map_twice (kept_of script run' core') (corrected e replies.Memory) (slice_get run.lines k))
+          ∙ sym (ap (option_map (kept_of script run' core')) (slice_get-map (corrected e replies.Memory) run.lines k));
+      from_one = λ k l there. let w = was e replies.Memory run.lines k l there in subst (λ (x : ℕ). 1 ≤ x) (sym w.session) (h.from_one k w.line w.there);
+      each = λ t one' within'. elim (cases_eq t s) [
+        | inl same ↦ subst (λ (x : ℕ). SessionIs script (journal ++ e ∷ []) (with_reply run.lines e replies.Memory) x (told_of run' x) (seat_of core' x).job (progress_of (slice_set ps (s - 1) (record { begun = (told_of run s).begun; entry = length journal; line = at })) x)) (sym same)
+            (session_at script _ _ s told (told_of run' s) (seat_of core' s).job (seat_of core' s).job (record { begun = (told_of run s).begun; entry = length journal; line = at }) _ here refl
+            (progress_here ps s _ one (omega (arith, h.places)))
+            (session_wants script core journal kept run s at (seat_of core s).job (progress_of ps s) (h.each s one within) own (seat_of core' s).job falls.over))
+        | inr other ↦
+            session_at script _ _ t (told_of run t) (told_of run' t) (seat_of core t).job (seat_of core' t).job (progress_of ps t) _
+            (told_there run.told s t told one one' other)
+            (ap (λ (seat : Seat). seat.job) (seat_there core core' s t one one' other others))
+            (progress_there ps s t _ one one' other)
+            (session_corrected script journal run.lines e replies.Memory t _ _ _ (λ x. other (sym x)) (h.each t one' within'))
+      ];
+      entries =
+          let more = one_second run.told s told one told_within refl busy.begun busy.last refl in
+          omega (arith, h.entries, more, length-append journal (e ∷ []));
+      fewer = omega (arith, h.fewer, length-append journal (e ∷ []), length-map run.lines (corrected e replies.Memory));
+    }
+
+-- a hub with another core and other kept lines
+abbrev pub with_core : HubState → CoreState → List KeptLine → HubState
+with_core old core kept = record { script = old.script; core = core; journal = old.journal; kept = kept }
+
+-- one later turn without an entry
+ran_later : (old : HubState) (core : CoreState) (kept : List KeptLine) (ps : List Progress) (s : ℕ) (turn : Turn) → IsHub old ps → 1 ≤ s → s ≤ length old.script.sessions → is_past_moment (seat_of old.core s).job ≡ true → OthersStay old.core s core →
+    (end_of turn ≡ Nothing → ⊥) → record { begun = (told_of (run_of old.script old.journal) s).begun; under_way = is_past_moment (seat_of core s).job } ≡ place_after (record { begun = (told_of (run_of old.script old.journal) s).begun; under_way = true }) (end_of turn) →
+    Ran old (with_core old core kept) (turn_made s None turn ∷ [])
+ran_later old core kept ps s turn h one within past others made place =
+    let run = run_of old.script old.journal in
+    let b = (told_of run s).begun in
+    let t : TurnMade = turn_made s None turn in
+    ran_one old (with_core old core kept) ps s t (told_of run s) h one within refl refl (sym (append-nil old.journal))
+    (subst (λ (u : Bool). IsTurn old.script run (record { begun = b; under_way = u }) t) (sym past) (record { made = made; entry = λ e is. absurd (cc) }))
+    (sym (set_same run.told (s - 1) (told_of run s) (told_get run.told s one (omega (arith, h.told)))))
+    others
+    (place ∙ sym (ap (λ (u : Bool). place_after (record { begun = b; under_way = u }) (end_of turn)) past))
+
+pub made_more : (old : HubState) (core : CoreState) (ps : List Progress) (s : ℕ) → IsHub old ps → 1 ≤ s → s ≤ length old.script.sessions → is_past_moment (seat_of old.core s).job ≡ true → OthersStay old.core s core → is_past_moment (seat_of core s).job ≡ true → MakesTurn old s (with_core old core old.kept) turns.More
+made_more old core ps s h one within past others past' = record {
+  entry = None;
+  ran = ran_later old core old.kept ps s turns.More h one within past others (λ e. cc) (ap (λ (u : Bool). record { begun = (told_of (run_of old.script old.journal) s).begun; under_way = u }) past');
+  named = tt;
+}
+
+pub made_done : (old : HubState) (core : CoreState) (kept : List KeptLine) (ps : List Progress) (s at : ℕ) → IsHub old ps → 1 ≤ s → s ≤ length old.script.sessions → is_past_moment (seat_of old.core s).job ≡ true → OthersStay old.core s core → (seat_of core s).job ≡ jobs.Idle → (progress_of ps s).entry ≡ at → MakesTurn old s (with_core old core kept) (turns.Ended at)
+made_done old core kept ps s at h one within past others idle is =
+    let busy = busy_of old.script s (told_of (run_of old.script old.journal) s) (seat_of old.core s).job past (h.each s one within).busy in
+    record {
+      entry = None;
+      ran = ran_later old core kept ps s (turns.Ended at) h one within past others (λ e. cc) (ap (λ (j : Job). record { begun = (told_of (run_of old.script old.journal) s).begun; under_way = is_past_moment j }) idle);
+      named = subst (λ (k : ℕ). IsLastEntry old.journal k s (told_of (run_of old.script old.journal) s).begun) is ((h.each s one within).entry busy.begun);
+    }
+
+-- a hub whose session has wanted memory
+abbrev pub wanted : HubState → CoreState → ℕ → ℕ → HubState
+wanted old core s at = record {
+  script = old.script;
+  core = core;
+  journal = old.journal ++ (record { session = s; number = (told_of (run_of old.script old.journal) s).begun; kind = kinds.Memory }) ∷ [];
+  kept = slice_set old.kept at (replied (slice_index_or old.kept at no_line) (Some replies.Memory));
+}
+
+-- the hub once want of memory has ended a command
+pub record HubWants (old : HubState) (core : CoreState) (ps : List Progress) (s at : ℕ) : Type 0 where
+  pub keeps : IsHub (wanted old core s at) (slice_set ps (s - 1) (record { begun = (told_of (run_of old.script old.journal) s).begun; entry = length old.journal; line = at }))
+  pub made : MakesTurn old s (wanted old core s at) (turns.Ended (length old.journal))
+
+pub hub_wants : (old : HubState) (core : CoreState) (ps : List Progress) (s at : ℕ) → IsHub old ps → 1 ≤ s → s ≤ length old.script.sessions → is_past_moment (seat_of old.core s).job ≡ true → (progress_of ps s).line ≡ at → Falls old.core s core → OthersStay old.core s core → HubWants old core ps s at
+hub_wants old core ps s at h one within past is falls others =
+    let run = run_of old.script old.journal in
+    let b = (told_of run s).begun in
+    let e : JournalEntry = record { session = s; number = b; kind = kinds.Memory } in
+    let busy = busy_of old.script s (told_of run s) (seat_of old.core s).job past (h.each s one within).busy in
+    let own = own_line old.script old.core old.journal old.kept ps run s at h one within busy is in
+    let told : Told = record { begun = b; last = Some kinds.Memory; reply = Some own.line.reply } in
+    let want = run_want_later old.script run s b busy.command own.line.reply h.stands.upkeep (eq-eqb b b refl) own.reply busy.there busy.for_rows in
+    let after = run_push old.script old.journal e ∙ want in
+    let new = wanted old core s at in
+    let ps' = slice_set ps (s - 1) (record { begun = b; entry = length old.journal; line = at }) in
+    let keeps : IsHub new ps' = subst (Keeps old.script core new.journal new.kept ps') (sym after) (keeps_want old.script old.core core old.journal old.kept ps run s at h refl one within busy own falls others) in
+    let told_is : (run_of new.script new.journal).told ≡ slice_set run.told (s - 1) told = ap (λ (r : Run). r.told) after in
+    let here : (told_of (run_of new.script new.journal) s).begun ≡ b = ap (λ (ts : List Told). (unwrap_or (slice_get ts (s - 1)) untold).begun) told_is ∙ ap (λ (t : Told). t.begun) (told_here run.told s told one (omega (arith, h.told))) in
+    let t : TurnMade = turn_made s (Some e) (turns.Ended (length old.journal)) in
+    record {
+      keeps = keeps;
+      made = record {
+        entry = Some e;
+        ran = ran_one old new ps s t told h one within refl refl refl
+            (subst (λ (u : Bool). IsTurn old.script run (record { begun = b; under_way = u }) t) (sym past) (record {
+              made = λ no. cc;
+              entry = λ x is. let same : e ≡ x = same_Some e x is in (ap (λ (y : JournalEntry). y.session) (sym same), ap (λ (y : JournalEntry). y.number) (sym same), ap (λ (y : JournalEntry). is_run y.kind) (sym same), refl);
+            }))
+            told_is others
+            (ap (λ (j : Job). record { begun = b; under_way = is_past_moment j }) falls.over ∙ sym (ap (λ (u : Bool). place_after (record { begun = b; under_way = u }) Ended) past));
+        named = named_last new ps' s (length old.journal) keeps one within (ap (λ (p : Progress). p.entry) (progress_here ps s _ one (omega (arith, h.places)))) (omega (arith, here, busy.begun));
+      };
+    }
+
+-- there is room for a second entry
+pub later_room : (old : HubState) (core : CoreState) (ps : List Progress) (s at : ℕ) → HubWants old core ps s at → length old.journal < 2 * command_count old.script
+later_room old core ps s at b =
+    let room = fits (wanted old core s at) _ b.keeps in
+    omega (arith, room.journal_fits, length-append old.journal ((record { session = s; number = (told_of (run_of old.script old.journal) s).begun; kind = kinds.Memory }) ∷ []))
+
+-- how far a session is, as it was read
+pub progress_is : (hub : HubState) (ps : List Progress) (s : ℕ) (x : Progress) → IsHub hub ps → 1 ≤ s → s ≤ length hub.script.sessions → x ≡ get_or ps (s - 1) x → progress_of ps s ≡ x
+progress_is hub ps s x h one within is = sym (get_or_read ps (s - 1) x (omega (arith, h.places)) is at_start)
+
+-- the line of a command under way, as it was read
+pub line_is : (old : HubState) (ps : List Progress) (s : ℕ) (x : Progress) → IsHub old ps → 1 ≤ s → s ≤ length old.script.sessions → is_past_moment (seat_of old.core s).job ≡ true → x ≡ get_or ps (s - 1) x → OwnLine old.script old.core old.kept (run_of old.script old.journal) s x.line
+line_is old ps s x h one within past is =
+    let run = run_of old.script old.journal in
+    own_line old.script old.core old.journal old.kept ps run s x.line h one within
+    (busy_of old.script s (told_of run s) (seat_of old.core s).job past (h.each s one within).busy)
+    (ap (λ (p : Progress). p.line) (progress_is old ps s x h one within is))
+
+-- the number of the command under way, as it was read
+pub number_is : (old : HubState) (ps : List Progress) (s : ℕ) (x : Progress) → IsHub old ps → 1 ≤ s → s ≤ length old.script.sessions → x ≡ get_or ps (s - 1) x → x.begun ≡ (told_of (run_of old.script old.journal) s).begun
+number_is old ps s x h one within is = sym (ap (λ (p : Progress). p.begun) (progress_is old ps s x h one within is)) ∙ (h.each s one within).begun
+
+-- a hub as it was recorded
+abbrev pub hub_of : Script → CoreState → List JournalEntry → List KeptLine → HubState
+hub_of script core journal kept = record { script = script; core = core; journal = journal; kept = kept }
+
+pub done_is : (old : HubState) (core : CoreState) (ps : List Progress) (s : ℕ) (x : Progress) (reply : Reply) (kept : List KeptLine) → IsHub old ps → 1 ≤ s → s ≤ length old.script.sessions → is_past_moment (seat_of old.core s).job ≡ true → x ≡ get_or ps (s - 1) x →
+    StaysFor old.core core → OthersStay old.core s core → (seat_of core s).job ≡ jobs.Idle → EndsWith old.core s reply → kept ≡ slice_set old.kept x.line (replied (slice_index_or old.kept x.line no_line) (Some reply)) → IsHub (with_core old core kept) ps
+done_is old core ps s x reply kept h one within past is stays others idle ends kept_is =
+    subst (λ (k : List KeptLine). IsHub (with_core old core k) ps) (sym kept_is)
+    (keeps_done old.script old.core core old.journal old.kept ps (run_of old.script old.journal) s x.line reply h one within (line_is old ps s x h one within past is) stays others idle ends)
+
+pub wants_of : (old : HubState) (core : CoreState) (ps : List Progress) (s : ℕ) (x : Progress) → IsHub old ps → 1 ≤ s → s ≤ length old.script.sessions → is_past_moment (seat_of old.core s).job ≡ true → x ≡ get_or ps (s - 1) x → Falls old.core s core → OthersStay old.core s core → HubWants old core ps s x.line
+wants_of old core ps s x h one within past is falls others = hub_wants old core ps s x.line h one within past (ap (λ (p : Progress). p.line) (progress_is old ps s x h one within is)) falls others
+
+-- what was recorded of want of memory
+pub record WantsSo (old : HubState) (core : CoreState) (ps : List Progress) (s : ℕ) (journal : List JournalEntry) (kept : List KeptLine) (ps' : List Progress) (entry : ℕ) : Type 0 where
+  pub keeps : IsHub (hub_of old.script core journal kept) ps'
+  pub made : MakesTurn old s (hub_of old.script core journal kept) (turns.Ended entry)
+
+pub wants_so : (old : HubState) (core : CoreState) (ps : List Progress) (s : ℕ) (x : Progress) (journal : List JournalEntry) (kept : List KeptLine) (ps' : List Progress) (entry : ℕ) → IsHub old ps → 1 ≤ s → s ≤ length old.script.sessions → x ≡ get_or ps (s - 1) x → HubWants old core ps s x.line →
+    journal ≡ old.journal ++ (record { session = s; number = x.begun; kind = kinds.Memory }) ∷ [] → kept ≡ slice_set old.kept x.line (replied (slice_index_or old.kept x.line no_line) (Some replies.Memory)) →
+    ps' ≡ slice_set ps (s - 1) (record { begun = x.begun; entry = entry; line = x.line }) → entry ≡ length old.journal → WantsSo old core ps s journal kept ps' entry
+wants_so old core ps s x journal kept ps' entry h one within is b journal_is kept_is ps_is entry_is =
+    let begun = number_is old ps s x h one within is in
+    let j : journal ≡ (wanted old core s x.line).journal = journal_is ∙ ap (λ (n : ℕ). old.journal ++ (record { session = s; number = n; kind = kinds.Memory }) ∷ []) begun in
+    let p : ps' ≡ slice_set ps (s - 1) (record { begun = (told_of (run_of old.script old.journal) s).begun; entry = length old.journal; line = x.line }) =
+    ps_is ∙ ap (λ (n : ℕ). slice_set ps (s - 1) (record { begun = n; entry = entry; line = x.line })) begun ∙ ap (λ (n : ℕ). slice_set ps (s - 1) (record { begun = (told_of (run_of old.script old.journal) s).begun; entry = n; line = x.line })) entry_is in
+    record {
+      keeps =
+          subst (λ (js : List JournalEntry). IsHub (hub_of old.script core js kept) ps') (sym j)
+          (subst (λ (ks : List KeptLine). IsHub (hub_of old.script core (wanted old core s x.line).journal ks) ps') (sym kept_is)
+          (subst (λ (qs : List Progress). IsHub (wanted old core s x.line) qs) (sym p) b.keeps));
+      made =
+          subst (λ (js : List JournalEntry). MakesTurn old s (hub_of old.script core js kept) (turns.Ended entry)) (sym j)
+          (subst (λ (ks : List KeptLine). MakesTurn old s (hub_of old.script core (wanted old core s x.line).journal ks) (turns.Ended entry)) (sym kept_is)
+          (subst (λ (n : ℕ). MakesTurn old s (wanted old core s x.line) (turns.Ended n)) (sym entry_is) b.made));
+    }

@@ -1,0 +1,114 @@
+-- A hub before its first turn, and what a session has under way.
+use Rattle.std.proofs.Common.{◌≡◌, ◌<◌, ◌≤◌, ◌-◌, ℕ, zero, suc, Bool, true, false, List, [], ◌∷◌, Option, Some, None, length, get_or, slice_get, replicate, refl, sym, ap, ◌∙◌, subst, arith}
+use Rattle.std.specs.Prelude.{map as mapped}
+use Rattle.std.specs.Option.{unwrap_or}
+use Rattle.std.specs.List.{sum_by}
+use Rattle.std.proofs.lemmas.List.{length-replicate}
+use Rattle.command_set.specs.declared.journal.Told.{Told}
+use Rattle.command_set.specs.declared.Script.{Script}
+use Rattle.command_set.specs.declared.Reply.{Reply}
+use Rattle.command_set.specs.Plain.{first_state}
+use Rattle.command_set.specs.Journals.{first_run, untold, told_of, run_of}
+use Rattle.toast_core.specs.declared.Under.{Under}
+use Rattle.toast_core.specs.declared.Under.TheVariants as under
+use Rattle.toast_core.specs.declared.parts.Job.{Job}
+use Rattle.toast_core.specs.declared.parts.Job.TheVariants as jobs
+use Rattle.toast_core.specs.declared.parts.Seat.{Seat}
+use Rattle.toast_core.specs.State.{CoreState, seat_of, nobody}
+use Rattle.toast_core.specs.Stands.{Stands, is_past_moment, under_of}
+use Rattle.session_shell.specs.declared.hub.Progress.{Progress}
+use Rattle.command_set.specs.declared.JournalEntry.{JournalEntry}
+use Rattle.session_shell.specs.declared.hub.KeptLine.{KeptLine}
+use Rattle.session_shell.specs.Hubs.{IsHub, Keeps, SessionIs, IsScript, IsBusyBy, replies_of, at_start, progress_of}
+use Rattle.session_shell.specs.Turns.{Place, places_by}
+use Rattle.session_shell.proofs.Firsts.{session_at}
+
+replies_none : (n : ℕ) → mapped (λ (told : Told). told.reply) (replicate n untold) ≡ replicate n None
+replies_none zero = refl
+replies_none (suc n) = ap (λ (rest : List (Option Reply)). None ∷ rest) (replies_none n)
+
+get_replicate : {X : Type 0} (n i : ℕ) (x : X) → unwrap_or (slice_get (replicate n x) i) x ≡ x
+get_replicate zero i x = refl
+get_replicate (suc n) zero x = refl
+get_replicate (suc n) (suc i) x = get_replicate n i x
+
+at_replicate : {X : Type 0} (n i : ℕ) (x : X) → get_or (replicate n x) i x ≡ x
+at_replicate zero i x = refl
+at_replicate (suc n) zero x = refl
+at_replicate (suc n) (suc i) x = at_replicate n i x
+
+-- before the first turn each session is at its start
+pub places_first : (n : ℕ) → places_by (replicate n untold) (replicate n nobody) ≡ replicate n (record { begun = 0; under_way = false })
+places_first zero = refl
+places_first (suc n) = ap (λ (rest : List Place). (record { begun = 0; under_way = false }) ∷ rest) (places_first n)
+
+session_first : (script : Script) (s : ℕ) → SessionIs script [] [] s untold jobs.Idle at_start
+session_first script s = record {
+  begun = refl;
+  within = omega arith;
+  busy = tt;
+  quiet = refl;
+  below = λ k l there session. absurd (cc);
+  line = λ one. absurd (omega (arith, one));
+  entry = λ one. absurd (omega (arith, one));
+}
+
+-- a new hub
+pub keeps_new : (script : Script) (core : CoreState) (ps : List Progress) → IsScript script → core.schemas ≡ script.schemas → core.seats ≡ replicate (length script.sessions) nobody → ps ≡ replicate (length script.sessions) at_start →
+    Stands core (first_state (length script.sessions)) (replicate (length script.sessions) None) → Keeps script core [] [] ps (first_run script)
+keeps_new script core ps rules schemas seats places stands =
+    let n = length script.sessions in
+    record {
+      rules = rules;
+      schemas = schemas;
+      seats = ap length seats ∙ length-replicate n nobody;
+      told = length-replicate n untold;
+      places = ap length places ∙ length-replicate n at_start;
+      stands = subst (Stands core (first_state n)) (sym (replies_none n)) stands;
+      legal = refl;
+      lines = λ k. refl;
+      from_one = λ k l there. absurd (cc);
+      each = λ s one within. session_at script [] [] s untold (told_of (first_run script) s) jobs.Idle (seat_of core s).job at_start (progress_of ps s)
+          (get_replicate n (s - 1) untold)
+          (ap (λ (xs : List Seat). (get_or xs (s - 1) nobody).job) seats ∙ ap (λ (x : Seat). x.job) (at_replicate n (s - 1) nobody))
+          (ap (λ (xs : List Progress). get_or xs (s - 1) at_start) places ∙ at_replicate n (s - 1) at_start)
+          (session_first script s);
+      entries = omega arith;
+      fewer = omega arith;
+    }
+
+-- nothing is under way
+pub idle_of : (job : Job) → under_of job ≡ under.Nothing → job ≡ jobs.Idle
+idle_of jobs.Idle e = refl
+idle_of (jobs.Submitted command) e = absurd (cc)
+idle_of (jobs.Reading job) e = absurd (cc)
+idle_of (jobs.Writing job) e = absurd (cc)
+
+-- something is under way, and has passed its moment
+pub past_of : (script : Script) (s : ℕ) (told : Told) (job : Job) → (under_of job ≡ under.Nothing → ⊥) → IsBusyBy script s told job → is_past_moment job ≡ true
+past_of script s told jobs.Idle other busy = absurd (other refl)
+past_of script s told (jobs.Submitted command) other busy = absurd busy
+past_of script s told (jobs.Reading job) other busy = refl
+past_of script s told (jobs.Writing job) other busy = refl
+
+pub idle_not_past : (job : Job) → under_of job ≡ under.Nothing → is_past_moment job ≡ true → ⊥
+idle_not_past jobs.Idle e past = cc
+idle_not_past (jobs.Submitted command) e past = cc
+idle_not_past (jobs.Reading job) e past = cc
+idle_not_past (jobs.Writing job) e past = cc
+
+-- a new hub, as it was made
+pub new_is : (script : Script) (core : CoreState) (journal : List JournalEntry) (kept : List KeptLine) (ps : List Progress) (n count : ℕ) → IsScript script → journal ≡ [] → kept ≡ [] → n ≡ length script.sessions → count ≡ length script.sessions → core.schemas ≡ script.schemas → core.seats ≡ replicate n nobody → ps ≡ replicate count at_start →
+    Stands core (first_state n) (replicate n None) → IsHub (record { script = script; core = core; journal = journal; kept = kept }) ps
+new_is script core journal kept ps n count rules j k n_is count_is schemas seats places stands =
+    subst (λ (js : List JournalEntry). IsHub (record { script = script; core = core; journal = js; kept = kept }) ps) (sym j)
+    (subst (λ (ks : List KeptLine). IsHub (record { script = script; core = core; journal = []; kept = ks }) ps) (sym k)
+    (keeps_new script core ps rules schemas (seats ∙ ap (λ (m : ℕ). replicate m nobody) n_is) (places ∙ ap (λ (m : ℕ). replicate m at_start) count_is)
+    (subst (λ (m : ℕ). Stands core (first_state m) (replicate m None)) n_is stands)))
+
+-- where its sessions are
+pub new_places : (script : Script) (core : CoreState) (journal : List JournalEntry) (n : ℕ) → journal ≡ [] → n ≡ length script.sessions → core.seats ≡ replicate n nobody → places_by (run_of script journal).told core.seats ≡ replicate (length script.sessions) (record { begun = 0; under_way = false })
+new_places script core journal n j n_is seats =
+    ap (λ (js : List JournalEntry). places_by (run_of script js).told core.seats) j
+    ∙ ap (places_by (replicate (length script.sessions) untold)) (seats ∙ ap (λ (m : ℕ). replicate m nobody) n_is)
+    ∙ places_first (length script.sessions)

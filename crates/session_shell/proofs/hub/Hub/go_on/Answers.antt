@@ -1,0 +1,147 @@
+-- A command goes on, is over, or wants memory.
+use Rattle.std.proofs.Common.{◌-◌, ◌∙◌, slice_set, arith, refl, rules, sym, ap}
+use Rattle.std.proofs.lemmas.List.{length-map}
+use Rattle.command_set.specs.declared.journal.Told.{Told}
+use Rattle.command_set.specs.Journals.{run_of}
+use Rattle.toast_core.specs.Events.{left}
+use Rattle.session_shell.specs.Hubs.{replies_of}
+use Rattle.session_shell.specs.declared.hub.Progress.{Progress}
+use Rattle.session_shell.specs.contracts.hub.Hub.{the_view}
+use Rattle.session_shell.proofs.Made.{fits}
+use Rattle.session_shell.proofs.Laters.{done_is, keeps_more, later_room, line_is, made_done, made_more, progress_is, wants_of, wants_so}
+use Rattle.session_shell.proofs.hub.Hub.go_on.Goals as goal
+
+pub overflow_sub-at : goal.overflow_sub-at
+overflow_sub-at c = c.requires.session.from_one
+
+pub overflow_cast-at : goal.overflow_cast-at
+overflow_cast-at c = search rules
+
+pub index-requires : goal.index-requires
+index-requires c =
+    let q = rw (← c.self.view_is) at c.requires in
+    omega (arith, q.session.from_one, q.session.within, c.self.invariant.0.places, c.self.inside.progress.ok.0)
+
+pub later_step-requires-clause-session : goal.later_step-requires-clause-session
+later_step-requires-clause-session c =
+    let q = rw (← c.self.view_is) at c.requires in
+    record { from_one = q.session.from_one; within = omega (arith, q.session.within, c.self.invariant.0.seats) }
+
+pub later_step-requires-clause-under_way : goal.later_step-requires-clause-under_way
+later_step-requires-clause-under_way c = let q = rw (← c.self.view_is) at c.requires in q.under_way
+
+pub later_step-requires-clause-stood : goal.later_step-requires-clause-stood
+later_step-requires-clause-stood c =
+    let q = rw (← c.self.view_is) at c.requires in
+    let run = run_of c.self.inside.script c.self.inside.journal.items in
+    record { state = run.plain; replies = replies_of run; within = omega (arith, q.session.from_one, q.session.within, c.self.invariant.0.told, length-map run.told (λ (t : Told). t.reply)); stands = c.self.invariant.0.stands }
+
+pub invariant_of-self : goal.invariant_of-self
+invariant_of-self c =
+    let q = rw (← c.self.view_is) at c.requires in (
+      keeps_more c.self.inside.script c.self.inside.core c.later_step.new.core c.self.inside.journal.items c.self.inside.kept.items c.self.inside.progress.items _ c.args.session c.self.invariant.0 q.session.from_one q.session.within q.under_way c.in-More.ensures.steps.0 c.in-More.ensures.apart c.in-More.ensures.steps.1,
+      c.self.invariant.1,
+      c.self.invariant.2,
+    )
+
+pub set_reply-requires : goal.set_reply-requires
+set_reply-requires c =
+    let q = rw (← c.self.view_is) at c.requires in
+    let old = the_view c.self.inside in
+    let ps = c.self.inside.progress.items in
+    omega (arith, (line_is old ps c.args.session c.index.result.now c.self.invariant.0 q.session.from_one q.session.within q.under_way c.index.ensures).within, c.self.inside.kept.ok.0)
+
+pub invariant_of-self-in-Done : goal.invariant_of-self-in-Done
+invariant_of-self-in-Done c =
+    let q = rw (← c.self.view_is) at c.requires in
+    let old = the_view c.self.inside in
+    let ps = c.self.inside.progress.items in (
+      done_is old c.later_step.new.core ps c.args.session c.index.result.now c.in-Done.reply c.set_reply.new.kept.items c.self.invariant.0 q.session.from_one q.session.within q.under_way c.index.ensures c.in-Done.ensures.steps.0 c.in-Done.ensures.apart c.in-Done.ensures.steps.1 c.in-Done.ensures.steps.2 c.set_reply.ensures.line,
+      c.self.invariant.1,
+      omega (arith, c.self.invariant.2, c.set_reply.ensures.room),
+    )
+
+pub overflow_cast-entry : goal.overflow_cast-entry
+overflow_cast-entry c =
+    let room = fits (the_view c.self.inside) c.self.inside.progress.items c.self.invariant.0 in
+    omega (arith, room.journal_fits, room.few, c.len-entry.ensures, c.self.inside.journal.ok.0)
+
+pub index_mut-requires : goal.index_mut-requires
+index_mut-requires c =
+    let q = rw (← c.self.view_is) at c.requires in
+    omega (arith, q.session.from_one, q.session.within, c.self.invariant.0.places, c.self.inside.progress.ok.0)
+
+pub push_entry-requires : goal.push_entry-requires
+push_entry-requires c =
+    let q = rw (← c.self.view_is) at c.requires in
+    let old = the_view c.self.inside in
+    let ps = c.self.inside.progress.items in
+    let b = wants_of old c.later_step.new.core ps c.args.session c.index.result.now c.self.invariant.0 q.session.from_one q.session.within q.under_way c.index.ensures c.in-Memory.ensures.steps c.in-Memory.ensures.apart in
+    omega (arith, later_room old c.later_step.new.core ps c.args.session c.index.result.now.line b, c.self.invariant.1, c.self.inside.journal.ok.0)
+
+pub set_reply-requires-in-Memory : goal.set_reply-requires-in-Memory
+set_reply-requires-in-Memory c =
+    let q = rw (← c.self.view_is) at c.requires in
+    let old = the_view c.self.inside in
+    let ps = c.self.inside.progress.items in
+    omega (arith, (line_is old ps c.args.session c.index.result.now c.self.invariant.0 q.session.from_one q.session.within q.under_way c.index.ensures).within, c.self.inside.kept.ok.0)
+
+pub invariant_of-self-in-Memory : goal.invariant_of-self-in-Memory
+invariant_of-self-in-Memory c =
+    let q = rw (← c.self.view_is) at c.requires in
+    let old = the_view c.self.inside in
+    let ps = c.self.inside.progress.items in
+    let b = wants_of old c.later_step.new.core ps c.args.session c.index.result.now c.self.invariant.0 q.session.from_one q.session.within q.under_way c.index.ensures c.in-Memory.ensures.steps c.in-Memory.ensures.apart in
+    let so = wants_so old c.later_step.new.core ps c.args.session c.index.result.now c.push_entry.new.journal.items c.set_reply-in-Memory.new.kept.items (slice_set ps (c.args.session - 1) (record { begun = c.index.result.now.begun; entry = c.len-entry.result; line = c.index.result.now.line })) c.len-entry.result c.self.invariant.0 q.session.from_one q.session.within c.index.ensures b c.push_entry.ensures.items c.set_reply-in-Memory.ensures.line refl (c.len-entry.ensures ∙ c.self.inside.journal.ok.0) in (
+      so.keeps,
+      omega (arith, c.self.invariant.1, c.push_entry.ensures.room),
+      omega (arith, c.self.invariant.2, c.set_reply-in-Memory.ensures.room),
+    )
+
+pub returns-in-More-clause-made : goal.returns-in-More-clause-made
+returns-in-More-clause-made c =
+    let q = rw (← c.self.view_is) at c.requires in
+    let old = the_view c.self.inside in
+    let ps = c.self.inside.progress.items in
+    rw (← c.self.view_is) (made_more old c.later_step.new.core ps c.args.session c.self.invariant.0 q.session.from_one q.session.within q.under_way c.in-More.ensures.apart c.in-More.ensures.steps.1)
+
+pub returns-in-More-clause-legal : goal.returns-in-More-clause-legal
+returns-in-More-clause-legal c = c.self.invariant.0.legal
+
+pub returns-in-More-clause-left : goal.returns-in-More-clause-left
+returns-in-More-clause-left c = rw (← c.self.view_is) (λ _. c.in-More.ensures.steps.2)
+
+pub returns-in-Done-clause-made : goal.returns-in-Done-clause-made
+returns-in-Done-clause-made c =
+    let q = rw (← c.self.view_is) at c.requires in
+    let old = the_view c.self.inside in
+    let ps = c.self.inside.progress.items in
+    rw (← c.self.view_is) (made_done old c.later_step.new.core c.set_reply.new.kept.items ps c.args.session c.index.result.now.entry c.self.invariant.0 q.session.from_one q.session.within q.under_way c.in-Done.ensures.apart c.in-Done.ensures.steps.1
+    (ap (λ (p : Progress). p.entry) (progress_is old ps c.args.session c.index.result.now c.self.invariant.0 q.session.from_one q.session.within c.index.ensures)))
+
+pub returns-in-Done-clause-legal : goal.returns-in-Done-clause-legal
+returns-in-Done-clause-legal c = c.self.invariant.0.legal
+
+pub returns-in-Done-clause-left : goal.returns-in-Done-clause-left
+returns-in-Done-clause-left c = λ e. absurd (cc)
+
+pub returns-in-Memory-clause-made : goal.returns-in-Memory-clause-made
+returns-in-Memory-clause-made c =
+    let q = rw (← c.self.view_is) at c.requires in
+    let old = the_view c.self.inside in
+    let ps = c.self.inside.progress.items in
+    let b = wants_of old c.later_step.new.core ps c.args.session c.index.result.now c.self.invariant.0 q.session.from_one q.session.within q.under_way c.index.ensures c.in-Memory.ensures.steps c.in-Memory.ensures.apart in
+    let so = wants_so old c.later_step.new.core ps c.args.session c.index.result.now c.push_entry.new.journal.items c.set_reply-in-Memory.new.kept.items (slice_set ps (c.args.session - 1) (record { begun = c.index.result.now.begun; entry = c.len-entry.result; line = c.index.result.now.line })) c.len-entry.result c.self.invariant.0 q.session.from_one q.session.within c.index.ensures b c.push_entry.ensures.items c.set_reply-in-Memory.ensures.line refl (c.len-entry.ensures ∙ c.self.inside.journal.ok.0) in
+    rw (← c.self.view_is) so.made
+
+pub returns-in-Memory-clause-legal : goal.returns-in-Memory-clause-legal
+returns-in-Memory-clause-legal c =
+    let q = rw (← c.self.view_is) at c.requires in
+    let old = the_view c.self.inside in
+    let ps = c.self.inside.progress.items in
+    let b = wants_of old c.later_step.new.core ps c.args.session c.index.result.now c.self.invariant.0 q.session.from_one q.session.within q.under_way c.index.ensures c.in-Memory.ensures.steps c.in-Memory.ensures.apart in
+    let so = wants_so old c.later_step.new.core ps c.args.session c.index.result.now c.push_entry.new.journal.items c.set_reply-in-Memory.new.kept.items (slice_set ps (c.args.session - 1) (record { begun = c.index.result.now.begun; entry = c.len-entry.result; line = c.index.result.now.line })) c.len-entry.result c.self.invariant.0 q.session.from_one q.session.within c.index.ensures b c.push_entry.ensures.items c.set_reply-in-Memory.ensures.line refl (c.len-entry.ensures ∙ c.self.inside.journal.ok.0) in
+    so.keeps.legal
+
+pub returns-in-Memory-clause-left : goal.returns-in-Memory-clause-left
+returns-in-Memory-clause-left c = λ e. absurd (cc)

@@ -1,0 +1,157 @@
+-- Turns of a hub: what each adds to the journal, and where it leaves its session.
+use Rattle.std.specs.Prelude.{◌≡◌, ◌≢◌, ℕ, ◌+◌, ◌-◌, Bool, true, false, List, [], ◌∷◌, ◌++◌, Option, Some, None, length, slice_get, slice_set, slice_index_or, replicate, if◌then◌else◌}
+use Rattle.command_set.specs.Replies.{is_granted}
+use Rattle.command_set.specs.Answers.{answer}
+use Rattle.command_set.specs.declared.journal.Run.{Run}
+use Rattle.command_set.specs.declared.journal.Told.{Told}
+use Rattle.command_set.specs.Journals.{run_of, run_on, told_of, command_at, is_run}
+use Rattle.command_set.specs.declared.Script.{Script}
+use Rattle.command_set.specs.declared.Command.{Command}
+use Rattle.command_set.specs.declared.Command.TheVariants as commands
+use Rattle.command_set.specs.declared.JournalEntry.{JournalEntry}
+use Rattle.command_set.specs.declared.Kind.TheVariants as kinds
+use Rattle.toast_core.specs.declared.parts.Seat.{Seat}
+use Rattle.toast_core.specs.Stands.{is_past_moment}
+use Rattle.session_shell.specs.declared.hub.Turn.{Turn}
+use Rattle.session_shell.specs.declared.hub.Turn.TheVariants as turns
+use Rattle.session_shell.specs.Hubs.{HubState, IsLastEntry}
+
+-- how a turn ends: no command was left, the command goes on, or the command is over
+pub data End : Type 0 where
+  Nothing : End
+  More : End
+  Ended : End
+
+-- a turn: its session, the entry that it adds, if any, and how it ends
+pub record TurnMade : Type 0 where
+  pub session : ℕ
+  pub entry : Option JournalEntry
+  pub end : End
+
+-- where a session is: how many of its commands have begun, and whether the last of these is under way
+pub record Place : Type 0 where
+  pub begun : ℕ
+  pub under_way : Bool
+
+-- where a session is that has begun nothing
+abbrev pub at_start : Place
+at_start = record { begun = 0; under_way = false }
+
+-- where a session is, from 1
+abbrev pub place_of : List Place → ℕ → Place
+place_of places s = slice_index_or places (s - 1) at_start
+
+-- a place once the next command has begun, unless one is under way
+abbrev pub begun_after : Place → ℕ
+begun_after place = if place.under_way then place.begun else place.begun + 1
+
+-- a place after a turn that ends so
+abbrev pub place_after : Place → End → Place
+place_after place Nothing = place
+place_after place More = record { begun = begun_after place; under_way = true }
+place_after place Ended = record { begun = begun_after place; under_way = false }
+
+-- the places after a turn
+abbrev pub after_turn : List Place → TurnMade → List Place
+after_turn places t = slice_set places (t.session - 1) (place_after (place_of places t.session) t.end)
+
+-- the places after these turns
+abbrev pub after_turns : List Place → List TurnMade → List Place
+after_turns places [] = places
+after_turns places (t ∷ ts) = after_turns (after_turn places t) ts
+
+-- the entry as a list
+abbrev pub entry_in : Option JournalEntry → List JournalEntry
+entry_in None = []
+entry_in (Some e) = e ∷ []
+
+-- the entries of turns, in order
+abbrev pub entries_of : List TurnMade → List JournalEntry
+entries_of [] = []
+entries_of (t ∷ ts) = entry_in t.entry ++ entries_of ts
+
+-- whether a command takes one step, granted or not
+abbrev pub is_one_step : Command → Bool
+is_one_step (commands.Begin level) = true
+is_one_step commands.Commit = true
+is_one_step commands.Rollback = true
+is_one_step (commands.Open handle table key column) = true
+is_one_step (commands.Close handle) = true
+is_one_step command = false
+
+-- a turn where no command is left does nothing
+pub record Rests (t : TurnMade) : Type 0 where
+  pub entry : t.entry ≡ None
+  pub end : t.end ≡ Nothing
+
+-- a turn that begins a command has the command's first entry; it goes on only after a moment that granted it, and only if it takes more than one step
+pub record Begins (script : Script) (run : Run) (place : Place) (t : TurnMade) (command : Command) : Type 0 where
+  pub entry : JournalEntry
+  pub is : t.entry ≡ Some entry
+  pub session : entry.session ≡ t.session
+  pub number : entry.number ≡ place.begun + 1
+  pub made : t.end ≢ Nothing
+  pub more : t.end ≡ More → (entry.kind ≡ kinds.Run) × (is_granted (answer script.schemas run.plain t.session command).reply ≡ true) × (is_one_step command ≡ false)
+
+-- a later turn of a command has at most an entry that ends it
+pub record GoesOn (place : Place) (t : TurnMade) : Type 0 where
+  pub made : t.end ≢ Nothing
+  pub entry : (e : JournalEntry) → t.entry ≡ Some e → (e.session ≡ t.session) × (e.number ≡ place.begun) × (is_run e.kind ≡ false) × (t.end ≡ Ended)
+
+-- what a turn is that does not go on with a command, by the session's next command
+abbrev pub BeginsBy : Script → Run → Place → TurnMade → Option Command → Type 0
+BeginsBy script run place t None = Rests t
+BeginsBy script run place t (Some command) = Begins script run place t command
+
+-- what a turn is, by whether a command of its session is under way
+abbrev pub TurnBy : Bool → Script → Run → Place → TurnMade → Type 0
+TurnBy true script run place t = GoesOn place t
+TurnBy false script run place t = BeginsBy script run place t (command_at script t.session (place.begun + 1))
+
+-- what a turn is, where its session is at this place
+abbrev pub IsTurn : Script → Run → Place → TurnMade → Type 0
+IsTurn script run place t = TurnBy place.under_way script run place t
+
+-- these are turns, one after another
+abbrev pub AreTurns : Script → Run → List Place → List TurnMade → Type 0
+AreTurns script run places [] = Unit {0}
+AreTurns script run places (t ∷ ts) = IsTurn script run (place_of places t.session) t × AreTurns script (run_on script run (entry_in t.entry)) (after_turn places t) ts
+
+-- where each session is, by what is told of it and by its seat
+abbrev pub places_by : List Told → List Seat → List Place
+places_by [] seats = []
+places_by (told ∷ tolds) [] = []
+places_by (told ∷ tolds) (seat ∷ seats) = record { begun = told.begun; under_way = is_past_moment seat.job } ∷ places_by tolds seats
+
+-- where each session of a hub is
+abbrev pub places_in : HubState → List Place
+places_in hub = places_by (run_of hub.script hub.journal).told hub.core.seats
+
+-- a hub has made these turns
+pub record Ran (old new : HubState) (turns : List TurnMade) : Type 0 where
+  pub script : new.script ≡ old.script
+  pub journal : new.journal ≡ old.journal ++ entries_of turns
+  pub each : AreTurns old.script (run_of old.script old.journal) (places_in old) turns
+  pub places : places_in new ≡ after_turns (places_in old) turns
+
+-- how an answer says that a turn ended
+abbrev pub end_of : Turn → End
+end_of turns.Nothing = Nothing
+end_of turns.More = More
+end_of (turns.Ended entry) = Ended
+
+-- the turn that an answer tells of
+abbrev pub turn_made : ℕ → Option JournalEntry → Turn → TurnMade
+turn_made s entry turn = record { session = s; entry = entry; end = end_of turn }
+
+-- an answer that a command has ended names the session's last entry
+abbrev pub NamesLast : HubState → ℕ → Turn → Type 0
+NamesLast hub s turns.Nothing = Unit {0}
+NamesLast hub s turns.More = Unit {0}
+NamesLast hub s (turns.Ended entry) = IsLastEntry hub.journal entry s (told_of (run_of hub.script hub.journal) s).begun
+
+-- a hub has made one turn of a session, and answered so
+pub record MakesTurn (old : HubState) (s : ℕ) (new : HubState) (turn : Turn) : Type 0 where
+  pub entry : Option JournalEntry
+  pub ran : Ran old new (turn_made s entry turn ∷ [])
+  pub named : NamesLast new s turn

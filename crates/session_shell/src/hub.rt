@@ -1,0 +1,503 @@
+// A hub: a script, the store that runs it, and the journal of what came of its commands.
+ghost use Rattle.std.specs.Prelude.{◌≡◌, ◌+◌, ◌++◌, ◌-◌, ◌*◌, ◌<◌, ◌≤◌, ◌∷◌, ◌^◌, [], false, length, IfOk, IsTrue, MatchBool, None, Some, true, option_and_then, replicate, slice_get, slice_index_or, slice_set, vec_capacity, vec_len, if◌then◌else◌};
+ghost use Rattle.std.specs.Option.{option_copied, option_map};
+ghost use Rattle.command_set.specs.Journals.{command_at, is_complete, is_legal};
+ghost use Rattle.script_text.specs.Scripts.{command_count};
+ghost use Rattle.toast_core.specs.State.{seat_of};
+ghost use Rattle.toast_core.specs.Events.{left};
+ghost use Rattle.toast_core.specs.Stands.{is_past_moment};
+ghost use Rattle.session_shell.specs.Lines.{no_line, with_reply};
+
+use crate::print::text_of;
+use crate::steps::{First, Later, first_step, later_step};
+use command_set::{Command, Item, JournalEntry, Kind, Reply, SchemaList, Script};
+use std::alloc::{AllocError, Global};
+use std::marker::Model;
+use toast_core::parts::Job;
+use toast_core::{Core, Setup, Under};
+use toast_io::Bytes;
+use tuple_layout::{Schema, SchemaFault};
+
+/// What a turn of a session has come to.
+#[derive(Clone, Copy, Debug, PartialEq, Eq)]
+pub enum Turn {
+    /// No command was under way or left.
+    Nothing,
+    /// The command goes on.
+    More,
+    /// The command is over; `entry` is the place of its last entry in the journal, from 0.
+    Ended { entry: u32 },
+}
+
+/// A printed line: a session, the number of its command, from 1, and the reply. The line of a read under
+/// way has no reply yet.
+#[derive(Debug, Drop)]
+pub struct KeptLine {
+    pub session: u16,
+    pub number: u32,
+    pub reply: Option<Reply>,
+}
+
+/// How far a session is: how many of its commands have begun, and where the last of these has its last
+/// entry and its line, from 0.
+#[derive(Clone, Copy, Debug)]
+pub struct Progress {
+    pub begun: u32,
+    pub entry: u32,
+    pub line: u32,
+}
+
+/// A script with a store that runs it, and the journal.
+#[derive(Debug, Drop)]
+pub struct Hub {
+    script: Script,
+    core: Core,
+    journal: Vec<JournalEntry>,
+    kept: Vec<KeptLine>,
+    progress: Vec<Progress>,
+}
+
+impl Model for Hub {
+    ghost use Rattle.std.specs.Prelude.{◌*◌, ◌≤◌, vec_capacity};
+    ghost use Rattle.script_text.specs.Scripts.{command_count};
+    ghost use Rattle.session_shell.specs.Hubs.{HubState, IsHub};
+
+    ghost Value = { HubState };
+
+    ghost view = { λ hub. record { script = hub.script; core = hub.core; journal = hub.journal.items; kept = hub.kept.items } };
+
+    ghost invariant = { λ hub. IsHub (record { script = hub.script; core = hub.core; journal = hub.journal.items; kept = hub.kept.items }) hub.progress.items × (2 * command_count hub.script ≤ vec_capacity hub.journal) × (2 * command_count hub.script ≤ vec_capacity hub.kept) };
+}
+
+impl Hub {
+    ghost use Rattle.session_shell.specs.Hubs.{IsScript, IsSessionOf, commands_of, session_in};
+    ghost use Rattle.session_shell.specs.Turns.{MakesTurn, at_start, place_of, places_in};
+    ghost use Rattle.session_shell.specs.Text.{text_of};
+    ghost use Rattle.session_shell.specs.Follows.{EmptiesSession, EndsSession, IsIdle, RunsEmptying, RunsEnding, RunsFinish, RunsItem, RunsItems, RunsWhole, items_in, items_of, passage_at};
+
+    /// A hub whose sessions have begun nothing.
+    ///
+    /// It takes the memory for its journal and its replies now, so that what comes of a command is
+    /// recorded where there is no memory left.
+    pub fn new(alloc: Global, script: Script) -> Result<Hub, AllocError>
+        requires { IsScript script }
+        ensures script { IfOk result (λ hub. hub.script ≡ script) }
+        ensures journal { IfOk result (λ hub. hub.journal ≡ []) }
+        ensures places { IfOk result (λ hub. places_in hub ≡ replicate (length script.sessions) at_start) }
+    {
+        let commands = count_commands(&script);
+        let journal = Vec::with_capacity(alloc, 3 * commands)?;
+        let kept = Vec::with_capacity(alloc, 2 * commands)?;
+        let progress = vec![in alloc; Progress {
+            begun: 0,
+            entry: 0,
+            line: 0
+        }; script.sessions.len()]?;
+        let schemas = copy_schemas(alloc, &script.schemas)?;
+        let sessions = script.sessions.len() as u16;
+        let setup = Setup {
+            schemas,
+            low: script.low,
+            high: script.high,
+            sessions,
+        };
+        let core = Core::new(alloc, &setup)?;
+        Ok(Hub {
+            script,
+            core,
+            journal,
+            kept,
+            progress,
+        })
+    }
+
+    /// One turn of a session: its next command is submitted if none is under way, and then one event is
+    /// made.
+    ///
+    /// Want of memory ends the command, as the journal then tells.
+    pub fn turn(&mut self, session: u16) -> Turn
+        requires { IsSessionOf self.old.script session }
+        ensures made { MakesTurn self.old session self.new result }
+        ensures legal { IsTrue (is_legal self.new.script self.new.journal) }
+        ensures left { is_past_moment (seat_of self.old.core session).job ≡ true → result ≡ Turn.More → left self.new.core session < left self.old.core session }
+        ensures under_way { result ≡ Turn.More → is_past_moment (seat_of self.new.core session).job ≡ true }
+    {
+        match self.core.busy_with(session) {
+            Under::Nothing => self.begin_next(session),
+            _ => self.go_on(session),
+        }
+    }
+
+    // A turn of a session with no command under way.
+    fn begin_next(&mut self, session: u16) -> Turn
+        requires session { IsSessionOf self.old.script session }
+        requires idle { (seat_of self.old.core session).job ≡ Job.Idle }
+        ensures made { MakesTurn self.old session self.new result }
+        ensures legal { IsTrue (is_legal self.new.script self.new.journal) }
+        ensures under_way { result ≡ Turn.More → is_past_moment (seat_of self.new.core session).job ≡ true }
+    {
+        let at = (session - 1) as usize;
+        let begun = self.progress[at].begun;
+        let Some(command) = next_command(&self.script, session, begun) else {
+            return Turn::Nothing;
+        };
+        let first = first_step(&mut self.core, session, command);
+        let goes_on = first.goes_on;
+        let entry = self.journal.len() as u32;
+        record_first(
+            &mut self.journal,
+            &mut self.kept,
+            &mut self.progress,
+            session,
+            begun + 1,
+            first,
+        );
+        turn_after(goes_on, entry)
+    }
+
+    // A turn of a session whose command is under way.
+    fn go_on(&mut self, session: u16) -> Turn
+        requires session { IsSessionOf self.old.script session }
+        requires under_way { is_past_moment (seat_of self.old.core session).job ≡ true }
+        ensures made { MakesTurn self.old session self.new result }
+        ensures legal { IsTrue (is_legal self.new.script self.new.journal) }
+        ensures left { result ≡ Turn.More → left self.new.core session < left self.old.core session }
+        ensures under_way { result ≡ Turn.More → is_past_moment (seat_of self.new.core session).job ≡ true }
+    {
+        let at = (session - 1) as usize;
+        let Progress { begun, entry, line } = self.progress[at];
+        match later_step(&mut self.core, session) {
+            Later::More => Turn::More,
+            Later::Done(reply) => {
+                set_reply(&mut self.kept, line, reply);
+                Turn::Ended { entry }
+            }
+            Later::Memory => {
+                let entry = self.journal.len() as u32;
+                self.progress[at] = Progress { begun, entry, line };
+                push_entry(
+                    &mut self.journal,
+                    JournalEntry {
+                        session,
+                        number: begun,
+                        kind: Kind::Memory,
+                    },
+                );
+                set_reply(&mut self.kept, line, Reply::Memory);
+                Turn::Ended { entry }
+            }
+        }
+    }
+
+    /// Goes through the script's schedule, item by item.
+    pub fn run_schedule(&mut self)
+        ensures { RunsItems self.old self.new (items_of self.old.script.schedule) }
+    {
+        for passage in 0..self.script.schedule.len() {
+            self.run_passage(passage);
+        }
+    }
+
+    // A passage of the schedule, so often as it says.
+    fn run_passage(&mut self, passage: usize)
+        requires { passage < length self.old.script.schedule }
+        ensures { RunsItems self.old self.new (items_in (passage_at self.old.script passage)) }
+    {
+        for _round in 0..self.rounds_of(passage) {
+            self.run_items(passage);
+        }
+    }
+
+    // The items of a passage, once.
+    fn run_items(&mut self, passage: usize)
+        requires { passage < length self.old.script.schedule }
+        ensures { RunsItems self.old self.new (passage_at self.old.script passage).items }
+    {
+        for at in 0..self.items_of(passage) {
+            let item = self.item_at(passage, at);
+            self.run_item(item);
+        }
+    }
+
+    // How often the items of a passage are gone through.
+    fn rounds_of(&self, passage: usize) -> u32
+        requires { passage < length self.now.script.schedule }
+        ensures { result ≡ (passage_at self.now.script passage).count }
+    {
+        self.script.schedule.as_slice()[passage].count
+    }
+
+    // The number of a passage's items.
+    fn items_of(&self, passage: usize) -> usize
+        requires { passage < length self.now.script.schedule }
+        ensures { result ≡ length (passage_at self.now.script passage).items }
+    {
+        self.script.schedule.as_slice()[passage].items.len()
+    }
+
+    // An item of a passage.
+    fn item_at(&self, passage: usize, at: usize) -> Item
+        requires passage { passage < length self.now.script.schedule }
+        requires item { at < length (passage_at self.now.script passage).items }
+        ensures item { slice_get (passage_at self.now.script passage).items at ≡ Some result }
+        ensures session { IsSessionOf self.now.script (session_in result) }
+    {
+        self.script.schedule.as_slice()[passage].items.as_slice()[at]
+    }
+
+    // The turns of an item.
+    fn run_item(&mut self, item: Item)
+        requires { IsSessionOf self.old.script (session_in item) }
+        ensures { RunsItem self.old self.new item }
+    {
+        match item {
+            Item::Once { session } => {
+                self.turn(session);
+            }
+            Item::Times { session, count } => self.turn_times(session, count),
+            Item::Whole { session } => self.turn_until_ended(session),
+        }
+    }
+
+    // So many turns of a session.
+    fn turn_times(&mut self, session: u16, count: u32)
+        requires { IsSessionOf self.old.script session }
+        ensures { RunsItem self.old self.new (Item.Times session count) }
+    {
+        for _turn in 0..count {
+            self.turn(session);
+        }
+    }
+
+    // Turns of a session until a command of it has ended, or none is left.
+    fn turn_until_ended(&mut self, session: u16)
+        requires { IsSessionOf self.old.script session }
+        ensures { RunsWhole self.old session self.new }
+    {
+        let _ = &self.core;
+        let mut turn = self.turn(session);
+        while let Turn::More = turn {
+            turn = self.turn(session);
+        }
+    }
+
+    /// Finishes the commands of all sessions: each session in ascending order ends its command under way,
+    /// and then each takes turns until it has no command left.
+    pub fn finish(&mut self)
+        ensures ran { RunsFinish self.old self.new }
+        ensures legal { IsTrue (is_legal self.new.script self.new.journal) }
+        ensures complete { IsTrue (is_complete self.new.script self.new.journal) }
+        ensures idle { IsIdle self.new }
+    {
+        self.end_all();
+        self.empty_all();
+    }
+
+    // Each session ends its command under way. No upkeep is.
+    fn end_all(&mut self)
+        ensures ran { RunsEnding self.old self.new }
+        ensures idle { IsIdle self.new }
+    {
+        for at in 0..self.script.sessions.len() {
+            let session = (at + 1) as u16;
+            self.end_session(session);
+        }
+    }
+
+    // A session ends its command under way, if there is one.
+    fn end_session(&mut self, session: u16)
+        requires { IsSessionOf self.old.script session }
+        ensures { EndsSession self.old session self.new }
+    {
+        match self.core.busy_with(session) {
+            Under::Nothing => {}
+            _ => self.turn_until_ended(session),
+        }
+    }
+
+    // Each session takes turns until it has no command left.
+    fn empty_all(&mut self)
+        requires { IsIdle self.old }
+        ensures ran { RunsEmptying self.old self.new }
+        ensures idle { IsIdle self.new }
+        ensures complete { IsTrue (is_complete self.new.script self.new.journal) }
+        ensures legal { IsTrue (is_legal self.new.script self.new.journal) }
+    {
+        for at in 0..self.script.sessions.len() {
+            let session = (at + 1) as u16;
+            self.empty_session(session);
+        }
+        let _ = &self.journal;
+    }
+
+    // A session takes turns until it has no command left.
+    fn empty_session(&mut self, session: u16)
+        requires session { IsSessionOf self.old.script session }
+        requires idle { (place_of (places_in self.old) session).under_way ≡ false }
+        ensures { EmptiesSession self.old session self.new }
+    {
+        'commands: while self.has_command_left(session) {
+            self.turn_until_ended(session);
+        }
+    }
+
+    // Whether a session has a command left.
+    fn has_command_left(&self, session: u16) -> bool
+        requires { IsSessionOf self.now.script session }
+        ensures { MatchBool result
+            ((place_of (places_in self.now) session).begun < length (commands_of self.now.script session))
+            ((place_of (places_in self.now) session).begun ≡ length (commands_of self.now.script session)) }
+    {
+        let at = (session - 1) as usize;
+        let begun = self.progress[at].begun as usize;
+        begun < self.script.sessions.as_slice()[at].len()
+    }
+
+    /// The journal so far.
+    pub fn journal(&self) -> &[JournalEntry]
+        ensures entries { result.now ≡ self.now.journal }
+        ensures legal { IsTrue (is_legal self.now.script self.now.journal) }
+    {
+        &self.journal
+    }
+
+    /// The text of the printed lines, where nothing is under way.
+    pub(crate) fn text(&self, alloc: Global) -> Result<Bytes, AllocError>
+        requires { IsIdle self.now }
+        ensures { IfOk result (λ text. text ≡ text_of self.now.script self.now.journal) }
+    {
+        let text = text_of(alloc, &self.kept)?;
+        Ok(text)
+    }
+
+    /// The reply of a line, from 0, if it is there and known.
+    pub fn reply(&self, line: u32) -> Option<&Reply>
+        ensures { option_copied result ≡ option_and_then (λ line. line.reply) (slice_get self.now.kept line) }
+    {
+        self.kept.get(line as usize)?.reply.as_ref()
+    }
+}
+
+// The commands of a script, counted.
+fn count_commands(script: &Script) -> usize
+    requires { command_count script.now ≤ 10000 }
+    ensures { result ≡ command_count script.now }
+{
+    let mut count = 0;
+    for session in script.sessions.as_slice() {
+        count += session.len();
+    }
+    count
+}
+
+// The same tables.
+fn copy_schemas(alloc: Global, schemas: &SchemaList) -> Result<SchemaList, AllocError>
+    ensures { IfOk result (λ copy. copy ≡ schemas.now) }
+{
+    let mut copy = SchemaList::new(alloc);
+    for schema in schemas.as_slice() {
+        match Schema::new(alloc, schema.storages()) {
+            Ok(schema) => copy.push(schema)?,
+            Err(SchemaFault::Memory) => return Err(AllocError),
+            Err(SchemaFault::Count { .. }) => unreachable!(),
+        }
+    }
+    Ok(copy)
+}
+
+// The command after those that a session has begun.
+fn next_command(script: &Script, session: u16, begun: u32) -> Option<&Command>
+    requires { 1 ≤ session }
+    ensures { option_copied result ≡ command_at script.now session (begun + 1) }
+{
+    let commands = script.sessions.get((session - 1) as usize)?;
+    commands.get(begun as usize)
+}
+
+// Records the first entry of a command, and its line.
+fn record_first(
+    journal: &mut Vec<JournalEntry>,
+    kept: &mut Vec<KeptLine>,
+    progress: &mut Vec<Progress>,
+    session: u16,
+    number: u32,
+    first: First,
+)
+    requires session { 1 ≤ session }
+    requires place { session ≤ vec_len progress.old }
+    requires entry { vec_len journal.old < vec_capacity journal.old }
+    requires line { vec_len kept.old < vec_capacity kept.old }
+    requires entries { vec_len journal.old < 2 ^ 32 }
+    requires lines { vec_len kept.old < 2 ^ 32 }
+    ensures journal { journal.new.items ≡ journal.old.items ++ record { session = session; number = number; kind = first.kind } ∷ [] }
+    ensures kept { kept.new.items ≡ kept.old.items ++ record { session = session; number = number; reply = first.reply } ∷ [] }
+    ensures progress { progress.new.items ≡ slice_set progress.old.items (session - 1) (record { begun = number; entry = length journal.old.items; line = length kept.old.items }) }
+    ensures entries { vec_capacity journal.old ≤ vec_capacity journal.new }
+    ensures lines { vec_capacity kept.old ≤ vec_capacity kept.new }
+{
+    progress[(session - 1) as usize] = Progress {
+        begun: number,
+        entry: journal.len() as u32,
+        line: kept.len() as u32,
+    };
+    push_entry(
+        journal,
+        JournalEntry {
+            session,
+            number,
+            kind: first.kind,
+        },
+    );
+    push_line(
+        kept,
+        KeptLine {
+            session,
+            number,
+            reply: first.reply,
+        },
+    );
+}
+
+// What a turn answers whose command goes on, or has ended with this entry.
+fn turn_after(goes_on: bool, entry: u32) -> Turn
+    ensures { result ≡ (if goes_on then Turn.More else Turn.Ended entry) }
+{
+    if goes_on {
+        Turn::More
+    } else {
+        Turn::Ended { entry }
+    }
+}
+
+// Adds an entry where room for it is kept.
+fn push_entry(journal: &mut Vec<JournalEntry>, entry: JournalEntry)
+    requires { vec_len journal.old < vec_capacity journal.old }
+    ensures items { journal.new.items ≡ journal.old.items ++ entry ∷ [] }
+    ensures room { vec_capacity journal.old ≤ vec_capacity journal.new }
+{
+    match journal.push(entry) {
+        Ok(()) => {}
+        Err(_) => unreachable!(),
+    }
+}
+
+// Adds a line where room for it is kept.
+fn push_line(kept: &mut Vec<KeptLine>, line: KeptLine)
+    requires { vec_len kept.old < vec_capacity kept.old }
+    ensures items { kept.new.items ≡ kept.old.items ++ line ∷ [] }
+    ensures room { vec_capacity kept.old ≤ vec_capacity kept.new }
+{
+    match kept.push(line) {
+        Ok(()) => {}
+        Err(_) => unreachable!(),
+    }
+}
+
+// Gives a line its reply.
+fn set_reply(kept: &mut Vec<KeptLine>, line: u32, reply: Reply)
+    requires { line < vec_len kept.old }
+    ensures line { kept.new.items ≡ slice_set kept.old.items line (with_reply (slice_index_or kept.old.items line no_line) (Some reply)) }
+    ensures room { vec_capacity kept.old ≤ vec_capacity kept.new }
+{
+    kept[line as usize].reply = Some(reply);
+}

@@ -1,0 +1,102 @@
+// The steps of one command, as the hub records them.
+ghost use Rattle.std.specs.Prelude.{◌≡◌, None, OnErr, IfOk, Some, if◌then◌else◌, false, true};
+ghost use Rattle.command_set.specs.Journals.{takes_no_memory};
+ghost use Rattle.toast_core.specs.State.{IsSession, seat_of};
+ghost use Rattle.toast_core.specs.Sound.{IsBuilt};
+ghost use Rattle.toast_core.specs.Stands.{Falls, OthersStay, Runs, is_past_moment};
+ghost use Rattle.session_shell.specs.Hubs.{is_read};
+ghost use Rattle.session_shell.specs.Steps.{BeginsBy, IsStood, StepsLater};
+
+use command_set::{Command, Kind, Reply};
+use std::alloc::AllocError;
+use toast_core::parts::Job;
+use toast_core::{Advance, Core};
+
+/// What a command's first step has come to.
+#[derive(Debug, Drop)]
+pub struct First {
+    /// The kind of the journal's entry.
+    pub kind: Kind,
+    /// What the command's line says; a read's says it at the read's end.
+    pub reply: Option<Reply>,
+    /// Whether the command is under way.
+    pub goes_on: bool,
+}
+
+/// What a later step of a command has come to.
+#[derive(Debug, Drop)]
+pub enum Later {
+    More,
+    Done(Reply),
+    Memory,
+}
+
+// Begins a command, and makes its first step.
+pub fn first_step(core: &mut Core, session: u16, command: &Command) -> First
+    requires session { IsSession core.old.seats session }
+    requires idle { (seat_of core.old session).job ≡ Job.Idle }
+    requires built { IsBuilt command.now }
+    requires stood { IsStood core.old session }
+    ensures begins { BeginsBy core.old session command.now core.new result }
+    ensures apart { OthersStay core.old session core.new }
+{
+    match begin(core, session, command) {
+        Ok(Advance::Done(reply)) => First {
+            kind: Kind::Run,
+            reply: Some(reply),
+            goes_on: false,
+        },
+        Ok(Advance::More) => First {
+            kind: Kind::Run,
+            reply: granted_reply(command),
+            goes_on: true,
+        },
+        Ok(Advance::Idle) => unreachable!(),
+        Err(_) => First {
+            kind: Kind::Memory,
+            reply: Some(Reply::Memory),
+            goes_on: false,
+        },
+    }
+}
+
+// Submits a command, and advances it once.
+fn begin(core: &mut Core, session: u16, command: &Command) -> Result<Advance, AllocError>
+    requires session { IsSession core.old.seats session }
+    requires idle { (seat_of core.old session).job ≡ Job.Idle }
+    requires built { IsBuilt command.now }
+    ensures ok { IfOk result (Runs core.old session command.now core.new) }
+    ensures falls { OnErr result (Falls core.old session core.new) }
+    ensures wanted { OnErr result (takes_no_memory command.now ≡ false) }
+    ensures apart { OthersStay core.old session core.new }
+{
+    core.submit(session, command)?;
+    let made = core.advance(session)?;
+    Ok(made)
+}
+
+// What a command's line says while the command, which is granted, goes on.
+fn granted_reply(command: &Command) -> Option<Reply>
+    ensures { result ≡ (if is_read command.now then None else Some Reply.Okay) }
+{
+    match command {
+        Command::Get { .. } | Command::Part { .. } | Command::Fetch { .. } => None,
+        _ => Some(Reply::Okay),
+    }
+}
+
+// Makes the next step of a command under way.
+pub fn later_step(core: &mut Core, session: u16) -> Later
+    requires session { IsSession core.old.seats session }
+    requires under_way { is_past_moment (seat_of core.old session).job ≡ true }
+    requires stood { IsStood core.old session }
+    ensures steps { StepsLater core.old session core.new result }
+    ensures apart { OthersStay core.old session core.new }
+{
+    match core.advance(session) {
+        Ok(Advance::More) => Later::More,
+        Ok(Advance::Done(reply)) => Later::Done(reply),
+        Ok(Advance::Idle) => unreachable!(),
+        Err(_) => Later::Memory,
+    }
+}

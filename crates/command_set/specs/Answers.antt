@@ -4,20 +4,24 @@ use Rattle.std.specs.Option.{unwrap_or}
 use Rattle.std.specs.FinMap as map
 use Rattle.tuple_layout.specs.declared.Storage.{Storage}
 use Rattle.tuple_layout.specs.Places.{Rows}
-use Rattle.command_set.specs.Changes.{Change, Insert, Update, Move, Remove, place, fold_changes, keys_of}
-use Rattle.command_set.specs.Plain.{Plain, Transaction, Session, Outside, Failed, Open, Upkeep, Main, Toast, Rewrite, session_of, with_session, view_of, row_at, value_at, row_with}
+use Rattle.command_set.specs.Changes.{place, fold_changes, keys_of}
+use Rattle.command_set.specs.declared.state.Change.{Change}
+use Rattle.command_set.specs.declared.state.Change.TheVariants.{Insert, Update, Move, Remove}
+use Rattle.command_set.specs.Plain.{session_of, with_session, view_of, row_at, value_at, row_with}
+use Rattle.command_set.specs.declared.state.Plain.{Plain}
+use Rattle.command_set.specs.declared.state.Transaction.{Transaction}
+use Rattle.command_set.specs.declared.state.Session.{Session}
+use Rattle.command_set.specs.declared.state.Session.TheVariants.{Outside, Failed, Open}
+use Rattle.command_set.specs.declared.state.Upkeep.{Upkeep}
+use Rattle.command_set.specs.declared.state.Upkeep.TheVariants.{Main, Toast, Rewrite}
 use Rattle.command_set.specs.Replies.{transaction_of, new_transaction, rewriter_of, reply_of, is_granted, fails}
+use Rattle.command_set.specs.declared.state.Answered.{Answered}
 use Rattle.command_set.specs.declared.Level.{Level}
 use Rattle.command_set.specs.declared.Level.TheVariants as levels
 use Rattle.command_set.specs.declared.Command.{Command}
 use Rattle.command_set.specs.declared.Command.TheVariants as commands
 use Rattle.command_set.specs.declared.Reply.{Reply}
 use Rattle.command_set.specs.declared.Reply.TheVariants as replies
-
--- a reply, and the state after the command
-pub record Answered : Type 0 where
-  pub reply : Reply
-  pub after : Plain
 
 -- the table of a data command that has one
 abbrev pub table_of : Command → Option ℕ

@@ -3,18 +3,9 @@ use Rattle.std.specs.Prelude.{ℕ, ℤ, Bool, List, [], ◌∷◌, ◌++◌}
 use Rattle.std.specs.List.{list_any}
 use Rattle.std.specs.FinMap as map
 use Rattle.tuple_layout.specs.declared.Place.{Place}
-use Rattle.tuple_layout.specs.Places.{Row, Rows, same_place}
-
--- a change of one row
-pub data Change : Type 0 where
-  -- a new row at a key that was free
-  Insert : ℕ → ℤ → Row → Change
-  -- a new row in place of the key's old one
-  Update : ℕ → ℤ → Row → Change
-  -- the first key's row is taken away, and the new row is at the second key
-  Move : ℕ → ℤ → ℤ → Row → Change
-  -- the key's row is taken away
-  Remove : ℕ → ℤ → Change
+use Rattle.tuple_layout.specs.Places.{Rows, same_place}
+use Rattle.command_set.specs.declared.state.Change.{Change}
+use Rattle.command_set.specs.declared.state.Change.TheVariants.{Insert, Update, Move, Remove}
 
 -- the place of a key in a table
 abbrev pub place : ℕ → ℤ → Place

@@ -2,9 +2,13 @@
 use Rattle.std.specs.Prelude.{ℕ, ◌+◌, ◌-◌, Bool, true, false, List, [], ◌∷◌, ◌++◌, Option, Some, None, length, map as mapped, nat_lt, slice_get, slice_set, replicate, ◌==◌, ◌&&◌, ◌||◌, not, is_some, if◌then◌else◌}
 use Rattle.std.specs.List.{filter, list_all, enumerate_from}
 use Rattle.std.specs.Option.{option_map_or, unwrap_or}
-use Rattle.command_set.specs.Plain.{Plain, first_state}
+use Rattle.command_set.specs.Plain.{first_state}
+use Rattle.command_set.specs.declared.state.Plain.{Plain}
 use Rattle.command_set.specs.Replies.{is_granted}
 use Rattle.command_set.specs.Answers.{answer, with_failure}
+use Rattle.command_set.specs.declared.journal.Line.{Line}
+use Rattle.command_set.specs.declared.journal.Run.{Run}
+use Rattle.command_set.specs.declared.journal.Told.{Told}
 use Rattle.command_set.specs.declared.Script.{Script}
 use Rattle.command_set.specs.declared.JournalEntry.{JournalEntry}
 use Rattle.command_set.specs.declared.Kind.{Kind}
@@ -54,24 +58,6 @@ takes_no_memory (commands.Begin level) = true
 takes_no_memory commands.Commit = true
 takes_no_memory commands.Rollback = true
 takes_no_memory command = false
-
--- a printed reply: the session, the number of its command, and what is said
-pub record Line : Type 0 where
-  pub session : ℕ
-  pub number : ℕ
-  pub reply : Reply
-
--- what a journal tells of a session: how many of its commands have begun; of the last of them, the kind of its last entry, and what its moment answered, if it had one
-pub record Told : Type 0 where
-  pub begun : ℕ
-  pub last : Option Kind
-  pub reply : Option Reply
-
--- what a journal tells: the plain store's state at its end, each session's place, and the printed lines
-pub record Run : Type 0 where
-  pub plain : Plain
-  pub told : List Told
-  pub lines : List Line
 
 -- a session none of whose commands has begun
 abbrev pub untold : Told

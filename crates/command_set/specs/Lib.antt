@@ -1,3 +1,4 @@
+pub mod Logs
 pub mod Changes
 pub mod Plain
 pub mod Replies

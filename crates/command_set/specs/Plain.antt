@@ -3,58 +3,15 @@
 use Rattle.std.specs.Prelude.{ℕ, ◌-◌, List, [], ◌∷◌, Option, Some, None, map as mapped, slice_get, slice_set, replicate, ◌==◌, if◌then◌else◌}
 use Rattle.std.specs.List.{enumerate_from}
 use Rattle.std.specs.Option.{unwrap_or}
-use Rattle.std.specs.Ordering.{nat_cmp}
 use Rattle.std.specs.FinMap as map
 use Rattle.tuple_layout.specs.Places.{Row, Rows}
 use Rattle.tuple_layout.specs.declared.Place.{Place}
-use Rattle.command_set.specs.Changes.{Change, fold_changes}
-use Rattle.command_set.specs.declared.Level.{Level}
+use Rattle.command_set.specs.Changes.{fold_changes}
+use Rattle.command_set.specs.declared.state.Plain.{Plain}
+use Rattle.command_set.specs.declared.state.Session.{Session}
+use Rattle.command_set.specs.declared.state.Session.TheVariants.{Outside}
+use Rattle.command_set.specs.declared.state.Transaction.{Transaction}
 use Rattle.command_set.specs.declared.Set.{Set}
-
--- an open transaction (PostgreSQL, "Transaction Isolation")
-pub record Transaction : Type 0 where
-  pub level : Level
-  -- the copy of the rows that a repeatable read transaction took at its first data command
-  pub base : Option Rows
-  -- its changes so far, in order
-  pub changes : List Change
-  -- the places that others' commits have changed since the copy
-  pub since : List Place
-  -- the tables that it has used
-  pub used : List ℕ
-  -- the values that it keeps under a name
-  pub handles : map.FinMap nat_cmp (List ℕ)
-
--- a session
-pub data Session : Type 0 where
-  -- in no transaction
-  Outside : Session
-  -- in a failed transaction, which has ended inside
-  Failed : Session
-  -- in an open transaction
-  Open : Transaction → Session
-
--- the kinds of upkeep of a table (PostgreSQL, "Routine Vacuuming"; VACUUM, its option FULL)
-pub data Upkeep : Type 0 where
-  -- vacuum of the rows
-  Main : Upkeep
-  -- vacuum of the values stored out of line
-  Toast : Upkeep
-  -- the table is written anew
-  Rewrite : Upkeep
-
--- upkeep that runs: whose, of which table, of which kind
-pub record Running : Type 0 where
-  pub session : ℕ
-  pub table : ℕ
-  pub kind : Upkeep
-
--- a state of the plain store; the first session in the list is session 1
-pub record Plain : Type 0 where
-  -- the committed rows
-  pub latest : Rows
-  pub sessions : List Session
-  pub upkeep : List Running
 
 -- the state before the first command, with so many sessions
 abbrev pub first_state : ℕ → Plain

@@ -9,7 +9,13 @@ use Rattle.tuple_layout.specs.Places.{Row, Rows}
 use Rattle.tuple_layout.specs.Sizes.{all_out_size, largest_tuple}
 use Rattle.tuple_layout.specs.Slices.{slice}
 use Rattle.command_set.specs.Changes.{place, keys_of, is_named}
-use Rattle.command_set.specs.Plain.{Plain, Transaction, Session, Outside, Failed, Open, Upkeep, Main, Toast, Rewrite, session_of, view_of, now_of, row_at, value_at, row_with}
+use Rattle.command_set.specs.Plain.{session_of, view_of, now_of, row_at, value_at, row_with}
+use Rattle.command_set.specs.declared.state.Plain.{Plain}
+use Rattle.command_set.specs.declared.state.Transaction.{Transaction}
+use Rattle.command_set.specs.declared.state.Session.{Session}
+use Rattle.command_set.specs.declared.state.Session.TheVariants.{Outside, Failed, Open}
+use Rattle.command_set.specs.declared.state.Upkeep.{Upkeep}
+use Rattle.command_set.specs.declared.state.Upkeep.TheVariants.{Main, Toast, Rewrite}
 use Rattle.command_set.specs.declared.Command.{Command}
 use Rattle.command_set.specs.declared.Command.TheVariants as commands
 use Rattle.command_set.specs.declared.Level.{Level}

@@ -2,6 +2,12 @@
 //! copies whole maps of rows and executes each command at one moment.
 #![tactic(auto)]
 
+pub mod changes;
+pub mod journal;
+pub mod rows;
+pub mod state;
+pub mod values;
+
 use list_facts::ListOf;
 pub use tuple_layout::{Bytes, Row, SchemaList};
 
@@ -90,7 +96,7 @@ pub enum Command {
 }
 
 /// What a command answers.
-#[derive(Debug, Drop, PartialEq)]
+#[derive(Clone, Debug, Drop, PartialEq)]
 pub enum Reply {
     /// Done as asked.
     Okay,
@@ -201,3 +207,6 @@ pub struct JournalEntry {
 
 /// A journal's entries, in order.
 pub type JournalList = ListOf<JournalEntry>;
+
+#[cfg(test)]
+mod tests;

@@ -15,9 +15,13 @@ use Rattle.std.proofs.Math.Seq.{drop-length, take-length}
 use Rattle.std.proofs.lemmas.Grind.{reverse_onto}
 use Rattle.std.proofs.lemmas.List.Folds.{find-append}
 use Rattle.tuple_layout.specs.Places.{Row, Rows, get-put, place_cmp}
-use Rattle.command_set.specs.Changes.{Change, Insert, fold_changes, place, made}
-use Rattle.command_set.specs.Plain.{Plain, Transaction, view_of, now_of}
-use Rattle.command_set.specs.Plain as plain
+use Rattle.command_set.specs.Changes.{fold_changes, place, made}
+use Rattle.command_set.specs.declared.state.Change.{Change}
+use Rattle.command_set.specs.declared.state.Change.TheVariants.{Insert}
+use Rattle.command_set.specs.declared.state.Plain.{Plain}
+use Rattle.command_set.specs.declared.state.Transaction.{Transaction}
+use Rattle.command_set.specs.declared.state.Session as plain
+use Rattle.command_set.specs.declared.state.Session.TheVariants as plain_sessions
 use Rattle.command_set.specs.Replies.{new_transaction}
 use Rattle.command_set.specs.declared.Level.TheVariants.{Rc}
 use Rattle.command_set.specs.declared.Command.{Command}
@@ -50,13 +54,13 @@ answers_by old new command reply each = record {
 }
 
 -- a core whose session is outside
-pub outside_answers : (rows added : List KeyedRow) (new : CoreState) (command : Command) (reply : Reply) → (added ≡ [] → AnsweredAt rows plain.Outside command new reply) → Answers (record { rows = rows; added = added; session = sessions.Outside }) command new reply
+pub outside_answers : (rows added : List KeyedRow) (new : CoreState) (command : Command) (reply : Reply) → (added ≡ [] → AnsweredAt rows plain_sessions.Outside command new reply) → Answers (record { rows = rows; added = added; session = sessions.Outside }) command new reply
 outside_answers rows added new command reply each =
     answers_by (record { rows = rows; added = added; session = sessions.Outside }) new command reply
     (λ session is. subst (λ (s : plain.Session). AnsweredAt rows s command new reply) (sym is.1) (each is.0))
 
 -- a core whose session has failed
-pub failed_answers : (rows added : List KeyedRow) (new : CoreState) (command : Command) (reply : Reply) → (added ≡ [] → AnsweredAt rows plain.Failed command new reply) → Answers (record { rows = rows; added = added; session = sessions.Failed }) command new reply
+pub failed_answers : (rows added : List KeyedRow) (new : CoreState) (command : Command) (reply : Reply) → (added ≡ [] → AnsweredAt rows plain_sessions.Failed command new reply) → Answers (record { rows = rows; added = added; session = sessions.Failed }) command new reply
 failed_answers rows added new command reply each =
     answers_by (record { rows = rows; added = added; session = sessions.Failed }) new command reply
     (λ session is. subst (λ (s : plain.Session). AnsweredAt rows s command new reply) (sym is.1) (each is.0))
@@ -69,11 +73,11 @@ transaction_is : (t : Transaction) (made : List Change) → IsTransaction t made
 transaction_is t made is = λ i. record { level = sym is.level i; base = sym is.base i; changes = sym is.changes i; since = t.since; used = t.used; handles = t.handles }
 
 -- a core whose session is in a transaction
-pub open_answers : (rows added : List KeyedRow) (new : CoreState) (command : Command) (reply : Reply) → ((t : Transaction) → AnsweredAt rows (plain.Open (with_changes t (insertions added))) command new reply) → Answers (record { rows = rows; added = added; session = sessions.Open }) command new reply
+pub open_answers : (rows added : List KeyedRow) (new : CoreState) (command : Command) (reply : Reply) → ((t : Transaction) → AnsweredAt rows (plain_sessions.Open (with_changes t (insertions added))) command new reply) → Answers (record { rows = rows; added = added; session = sessions.Open }) command new reply
 open_answers rows added new command reply each =
     answers_by (record { rows = rows; added = added; session = sessions.Open }) new command reply
     (λ session is. subst (λ (s : plain.Session). AnsweredAt rows s command new reply)
-    (ap plain.Open (transaction_is is.0 (insertions added) is.2) ∙ sym is.1) (each is.0))
+    (ap plain_sessions.Open (transaction_is is.0 (insertions added) is.2) ∙ sym is.1) (each is.0))
 
 -- the core stands for a state with its committed rows whose session is its own
 pub stands_at : (core : CoreState) (latest : Rows) (session : plain.Session) → latest ≡ committed_rows core.rows → IsSession core.session core.added session → Stands core (state_with latest session)
@@ -157,13 +161,13 @@ as_used t added = record { level = refl; base = refl; changes = refl }
 pub get_finds : (rows added : List KeyedRow) (key : ℤ) (row : Row) → row_of (rows ++ added) key ≡ Some row → Answers (record { rows = rows; added = added; session = sessions.Open }) (commands.Get 1 key) (record { rows = rows; added = added; session = sessions.Open }) (replies.Row key row)
 get_finds rows added key row found = open_answers rows added (record { rows = rows; added = added; session = sessions.Open }) (commands.Get 1 key) (replies.Row key row) (λ t.
     let is = seen_is rows added key ∙ found in
-    rw is (refl, stands_at (record { rows = rows; added = added; session = sessions.Open }) (committed_rows rows) (plain.Open (used_by t added)) refl (used_by t added, refl, as_used t added)))
+    rw is (refl, stands_at (record { rows = rows; added = added; session = sessions.Open }) (committed_rows rows) (plain_sessions.Open (used_by t added)) refl (used_by t added, refl, as_used t added)))
 
 -- get answers that there is no such key
 pub get_misses : (rows added : List KeyedRow) (key : ℤ) → row_of (rows ++ added) key ≡ None → Answers (record { rows = rows; added = added; session = sessions.Open }) (commands.Get 1 key) (record { rows = rows; added = added; session = sessions.Open }) replies.Absent
 get_misses rows added key missing = open_answers rows added (record { rows = rows; added = added; session = sessions.Open }) (commands.Get 1 key) replies.Absent (λ t.
     let is = seen_is rows added key ∙ missing in
-    rw is (refl, stands_at (record { rows = rows; added = added; session = sessions.Open }) (committed_rows rows) (plain.Open (used_by t added)) refl (used_by t added, refl, as_used t added)))
+    rw is (refl, stands_at (record { rows = rows; added = added; session = sessions.Open }) (committed_rows rows) (plain_sessions.Open (used_by t added)) refl (used_by t added, refl, as_used t added)))
 
 is_some_at : (o : Option Row) → is_some o ≡ true → (row : Row) × (o ≡ Some row)
 is_some_at None e = absurd (cc)
@@ -178,7 +182,7 @@ pub insert_taken : (rows added : List KeyedRow) (key : ℤ) (row : Row) → is_s
 insert_taken rows added key row found = open_answers rows added (record { rows = rows; added = []; session = sessions.Failed }) (commands.Insert 1 key row) replies.Taken (λ t.
     let there = is_some_at (row_of (rows ++ added) key) found in
     let is = seen_is rows added key ∙ there.1 in
-    rw is (refl, stands_at (record { rows = rows; added = []; session = sessions.Failed }) (committed_rows rows) plain.Failed refl (refl, refl)))
+    rw is (refl, stands_at (record { rows = rows; added = []; session = sessions.Failed }) (committed_rows rows) plain_sessions.Failed refl (refl, refl)))
 
 -- one value that may go out, or is too small to go out
 small_value : (bytes : List ℕ) (b : Bool) → nat_le least_out (length bytes) ≡ b → nat_lt largest_tuple (header_size 2 (list_any is_missing (width (Some bytes) b ∷ [])) + column_end External 8 (width (Some bytes) b)) ≡ false
@@ -204,7 +208,7 @@ insert_adds rows added key row one missing =
     let is = seen_is rows added key ∙ none_at (row_of (rows ++ added) key) missing in
     let small = never_too_big row one in
     let grown = record t { level = Rc; base = None; changes = insertions added ++ Insert 1 key row ∷ []; used = t.used ++ 1 ∷ [] } in
-    rw (is, small) (refl, stands_at (record { rows = rows; added = more; session = sessions.Open }) (committed_rows rows) (plain.Open grown) refl (grown, refl, record { level = refl; base = refl; changes = sym (insertions_push added (record { key = key; row = row })) })))
+    rw (is, small) (refl, stands_at (record { rows = rows; added = more; session = sessions.Open }) (committed_rows rows) (plain_sessions.Open grown) refl (grown, refl, record { level = refl; base = refl; changes = sym (insertions_push added (record { key = key; row = row })) })))
 
 -- an answer of a core that is known by its fields
 pub answers_from : (rows added : List KeyedRow) (session at : Session) (old new : CoreState) (command : Command) (reply : Reply) → record { rows = rows; added = added; session = session } ≡ old → session ≡ at → Answers (record { rows = rows; added = added; session = at }) command new reply → Answers old command new reply

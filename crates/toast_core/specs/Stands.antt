@@ -3,10 +3,15 @@ use Rattle.std.specs.Prelude.{◌≡◌, List, [], ◌∷◌, None, length}
 use Rattle.std.specs.FinMap as map
 use Rattle.tuple_layout.specs.Places.{Rows}
 use Rattle.tuple_layout.specs.declared.Storage.TheVariants.{External}
-use Rattle.command_set.specs.Changes.{Change, Insert, fold_changes}
-use Rattle.command_set.specs.Plain.{Plain, Transaction}
-use Rattle.command_set.specs.Plain as plain
-use Rattle.command_set.specs.Answers.{Answered, answer}
+use Rattle.command_set.specs.Changes.{fold_changes}
+use Rattle.command_set.specs.declared.state.Change.{Change}
+use Rattle.command_set.specs.declared.state.Change.TheVariants.{Insert}
+use Rattle.command_set.specs.declared.state.Plain.{Plain}
+use Rattle.command_set.specs.declared.state.Transaction.{Transaction}
+use Rattle.command_set.specs.declared.state.Session as plain
+use Rattle.command_set.specs.declared.state.Session.TheVariants as plain_sessions
+use Rattle.command_set.specs.Answers.{answer}
+use Rattle.command_set.specs.declared.state.Answered.{Answered}
 use Rattle.command_set.specs.declared.Level.TheVariants.{Rc}
 use Rattle.command_set.specs.declared.Command.{Command}
 use Rattle.command_set.specs.declared.Command.TheVariants as commands
@@ -33,9 +38,9 @@ pub record IsTransaction (t : Transaction) (made : List Change) : Type 0 where
 
 -- the session is outside, failed or open alike, and an open one has made the same changes; no other has made any
 abbrev pub IsSession : Session → List KeyedRow → plain.Session → Type 0
-IsSession sessions.Outside added session = (added ≡ []) × (session ≡ plain.Outside)
-IsSession sessions.Failed added session = (added ≡ []) × (session ≡ plain.Failed)
-IsSession sessions.Open added session = (t : Transaction) × (session ≡ plain.Open t) × IsTransaction t (insertions added)
+IsSession sessions.Outside added session = (added ≡ []) × (session ≡ plain_sessions.Outside)
+IsSession sessions.Failed added session = (added ≡ []) × (session ≡ plain_sessions.Failed)
+IsSession sessions.Open added session = (t : Transaction) × (session ≡ plain_sessions.Open t) × IsTransaction t (insertions added)
 
 -- the core stands for this state of the plain store
 pub record Stands (core : CoreState) (m : Plain) : Type 0 where

@@ -2,3 +2,6 @@ pub mod Places
 pub mod Sizes
 pub mod Slices
 pub mod Schemas
+pub mod Tuples
+pub mod Faults
+pub mod Reading

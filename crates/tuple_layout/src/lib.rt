@@ -4,7 +4,21 @@
 ghost use Rattle.std.specs.Prelude.{◌≡◌, ℕ, length, IsOk, IsErrOf, IfOk};
 ghost use Rattle.tuple_layout.specs.Schemas.{HasColumns};
 
+mod cell;
+mod fault;
+mod form;
+mod header;
+mod read;
+mod read_cell;
+mod size;
+
+pub use cell::{Cell, CellList, Stored};
+pub use external_pointer::Pointer;
+pub use fault::TupleFault;
+pub use form::form_tuple;
 use list_facts::ListOf;
+pub use read::read_tuple;
+pub use size::{column_end, header_size, row_size};
 use std::alloc::{AllocError, Global};
 use std::marker::Model;
 pub use toast_io::Bytes;
@@ -94,27 +108,4 @@ impl Schema {
 }
 
 #[cfg(test)]
-mod tests {
-    use super::{Schema, SchemaFault, Storage};
-
-    fn columns_of(made: &Result<Schema, SchemaFault>) -> usize {
-        match made {
-            Ok(schema) => schema.storages().len(),
-            Err(_) => 0,
-        }
-    }
-
-    #[test]
-    fn a_table_has_one_to_eight_columns(rt: HostRuntime) {
-        let alloc = rt.alloc();
-        let nine = [Storage::External; 9];
-        for columns in 1..9 {
-            let made = Schema::new(alloc, &nine[..columns]);
-            assert_eq!(rt; columns_of(&made), columns);
-        }
-        for columns in [0, 9] {
-            let made = Schema::new(alloc, &nine[..columns]);
-            assert!(rt; matches!(&made, Err(SchemaFault::Count { got }) if *got == columns));
-        }
-    }
-}
+mod tests;

@@ -1,0 +1,177 @@
+//! The relation.
+
+ghost use Rattle.std.specs.Prelude.{◌≡◌, ℕ, ◌+◌, ◌/◌, ◌≤◌, ◌<◌, ◌++◌, [], count_by, length, slice_index, IfOk, OnOk, OnErr};
+ghost use Rattle.std.specs.Option.{option_map};
+ghost use Rattle.slot_page.specs.Slots.{IsDead, IsNormal};
+ghost use Rattle.slot_page.specs.Pages.{page_at, put_tid, slot_of, with_put_on, written};
+ghost use Rattle.slot_page.specs.declared.line.LinePointer.{LinePointer};
+ghost use Rattle.chunk_relation.specs.Chunks.{chunk_shown, chunk_size, is_newly_dead, most_bytes, new_chunk};
+ghost use Rattle.chunk_relation.specs.DeadSlots.{dead_tids};
+ghost use Rattle.chunk_relation.specs.Relations.{AreAssigned, chunk_of, with_ended, with_pruned};
+
+use crate::TidList;
+use crate::chunk::{Chunk, ChunkView};
+use crate::pages::{add_dead, note_room, prune, put_on};
+use slot_page::{Page, Tid};
+use std::alloc::{AllocError, Global};
+use std::marker::Model;
+use toast_io::Bytes;
+use xact_status::XactTable;
+
+/// How many bytes a chunk's tuple has more than its data: the header of a tuple, the value's id, the
+/// chunk's number and the header of the data.
+const OVERHEAD: u16 = 36;
+
+/// The number of classes of sizes: a chunk's tuple has at most 2,032 bytes, which are counted in eights.
+const CLASSES: usize = 255;
+
+/// The class of a size: an item takes its size rounded up to 8, so items of one class fit on the same pages.
+fn class_of(size: u16) -> usize
+    requires { size ≤ 2032 }
+    ensures class { result ≡ (size + 7) / 8 }
+    ensures within { result < CLASSES }
+{
+    (size as usize + 7) / 8
+}
+
+/// Where the searches for room begin in a relation without pages.
+fn from_the_first_page() -> [u64; CLASSES]
+    ensures { (class : ℕ) → slice_index result class ≡ 0 }
+{
+    [0; CLASSES]
+}
+
+/// The relation of a table's chunks.
+///
+/// Contracts see its id and its pages, each as the list of its slots with what stands in them; so they
+/// see a map from tids to chunks.
+#[derive(Debug, Drop)]
+pub struct ChunkRel {
+    rel_id: u32,
+    pages: Vec<Page<Chunk>>,
+    /// For each class of sizes, a page below which no page has room for it: a search for room begins
+    /// there, so a relation that grows is not gone through from its first page at each put.
+    lowest: [u64; CLASSES],
+}
+
+impl Model for ChunkRel {
+    ghost use Rattle.chunk_relation.specs.Relations.{IsKept, Relation};
+
+    ghost Value = { Relation };
+
+    ghost view = { λ rel. record { rel_id = rel.rel_id; pages = rel.pages.items } };
+
+    ghost invariant = { λ rel. IsKept rel.pages.items rel.lowest };
+}
+
+impl ChunkRel {
+    /// A relation with this id and no page, which takes no memory yet.
+    pub fn new(alloc: Global, rel_id: u32) -> Self
+        ensures { result ≡ record { rel_id = rel_id; pages = [] } }
+    {
+        ChunkRel {
+            rel_id,
+            pages: Vec::new(alloc),
+            lowest: from_the_first_page(),
+        }
+    }
+
+    /// The relation's id, which a pointer to a value names.
+    pub fn rel_id(&self) -> u32
+        ensures { result ≡ self.now.rel_id }
+    {
+        self.rel_id
+    }
+
+    /// The number of pages.
+    pub fn pages(&self) -> u64
+        ensures { result ≡ length self.now.pages }
+    {
+        self.pages.len() as u64
+    }
+
+    /// Puts a chunk, of 1 to 1,996 bytes, on the lowest page where it fits, else on a new one, and
+    /// answers its tid. Where there is no memory, the relation stays.
+    pub fn put_chunk(
+        &mut self,
+        value_id: u32,
+        seq: u32,
+        inserter: u64,
+        bytes: &[u8],
+    ) -> Result<Tid, AllocError>
+        requires least { 1 ≤ length bytes.now }
+        requires most { length bytes.now ≤ most_bytes }
+        ensures tid { IfOk result (λ tid. tid ≡ put_tid (chunk_size (length bytes.now)) self.old.pages) }
+        ensures put { OnOk result (self.new ≡ record self.old { pages = with_put_on (chunk_size (length bytes.now)) (new_chunk value_id seq inserter bytes.now) self.old.pages }) }
+        ensures unchanged { OnErr result (self.new ≡ self.old) }
+    {
+        let size = OVERHEAD + bytes.len() as u16;
+        let class = class_of(size);
+        let chunk = Chunk {
+            value_id,
+            seq,
+            inserter,
+            ender: None,
+            bytes: Bytes::from_slice(*self.pages.allocator(), bytes)?,
+        };
+        let tid = put_on(&mut self.pages, self.lowest[class] as usize, size, chunk)?;
+        self.lowest[class] = tid.page;
+        Ok(tid)
+    }
+
+    /// The chunk at a tid, if there is one.
+    pub fn chunk_at(&self, tid: Tid) -> Option<ChunkView<'_>>
+        ensures { option_map chunk_shown result ≡ chunk_of self.now tid }
+    {
+        let page = self.pages.get(tid.page as usize)?;
+        let chunk = page.get(tid.slot)?;
+        Some(chunk.view())
+    }
+
+    /// Marks the chunk at a tid as ended by a transaction, whatever ended it before.
+    pub fn set_ender(&mut self, tid: Tid, xid: u64)
+        requires { IsNormal (slot_of self.old.pages tid) }
+        ensures { self.new ≡ record self.old { pages = with_ended xid self.old.pages tid } }
+    {
+        match self.pages[tid.page as usize].get_mut(tid.slot) {
+            Some(chunk) => chunk.ender = Some(xid),
+            None => unreachable!(),
+        }
+    }
+
+    /// Makes the slots of a page dead whose chunks no reader can see under a horizon, adds the tids of
+    /// all the page's dead slots to a list, in order, and answers how many are new. Where there is no
+    /// memory, the relation and the list stay.
+    pub fn prune_page(
+        &mut self,
+        page: u64,
+        xacts: &XactTable,
+        horizon: u64,
+        dead: &mut TidList,
+    ) -> Result<u32, AllocError>
+        requires there { page < length self.old.pages }
+        requires assigned { AreAssigned xacts.now self.old.pages }
+        ensures count { IfOk result (λ count. count ≡ count_by (is_newly_dead xacts.now horizon) (page_at self.old.pages page)) }
+        ensures pruned { OnOk result (self.new ≡ record self.old { pages = with_pruned xacts.now horizon self.old.pages page }) }
+        ensures gathered { OnOk result (dead.new ≡ dead.old ++ dead_tids page (page_at self.new.pages page)) }
+        ensures unchanged { OnErr result (self.new ≡ self.old) }
+        ensures list { OnErr result (dead.new ≡ dead.old) }
+    {
+        add_dead(&self.pages[page as usize], page, xacts, horizon, dead)?;
+        let count = prune(&mut self.pages[page as usize], xacts, horizon);
+        if count == 0 {
+            return Ok(0);
+        }
+        note_room(&mut self.lowest, page);
+        Ok(count)
+    }
+
+    /// Frees a dead slot for another chunk.
+    pub fn reap(&mut self, tid: Tid)
+        requires { IsDead (slot_of self.old.pages tid) }
+        ensures { self.new ≡ record self.old { pages = written self.old.pages tid LinePointer.Unused } }
+    {
+        self.pages[tid.page as usize].make_unused(tid.slot);
+        note_room(&mut self.lowest, tid.page);
+    }
+}

@@ -1,0 +1,4 @@
+pub mod AllOut
+pub mod Least
+pub mod Said
+pub mod Taken

@@ -1,0 +1,8 @@
+use Rattle.tuple_layout.proofs.Judged.{reads_again, one_fault}
+use Rattle.tuple_layout.proofs.read.read_tuple.Goals as goal
+
+pub returns-clause-again : goal.returns-clause-again
+returns-clause-again c = reads_again c.args.schema.now c.args.bytes.now c.read_parts.result c.read_parts.ensures.few c.read_parts.ensures.found c.read_parts.ensures.fault
+
+pub returns-clause-fault_only : goal.returns-clause-fault_only
+returns-clause-fault_only c = one_fault c.args.schema.now c.args.bytes.now c.read_parts.result c.read_parts.ensures.few c.read_parts.ensures.found c.read_parts.ensures.fault

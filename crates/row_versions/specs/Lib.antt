@@ -1,0 +1,4 @@
+pub mod Versions
+pub mod DeadSlots
+pub mod Keys
+pub mod Relations

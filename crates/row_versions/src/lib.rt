@@ -1,0 +1,26 @@
+//! The rows of a table: pages of slots, each slot with one version of a row, and a map from keys to
+//! the versions of each.
+//!
+//! A version is in the relation from its put until its page is pruned after its transaction has
+//! aborted, or after the one that ended it has committed and no reader can see it any more. Its slot is
+//! then dead until no entry of the key map names it, and free after that.
+//! Documentation: "Concurrency Control"; "Database Page Layout"; "Routine Vacuuming, Recovering Disk
+//! Space".
+#![tactic(auto)]
+
+mod keys;
+mod pages;
+mod reads;
+mod relation;
+#[cfg(test)]
+mod tests;
+mod version;
+
+pub use keys::KeyEntry;
+use list_facts::ListOf;
+pub use relation::RowVersions;
+use slot_page::Tid;
+pub use version::Version;
+
+/// A list of tids.
+pub type TidList = ListOf<Tid>;

@@ -1,0 +1,181 @@
+//! What is done on the pages of a relation.
+
+ghost use Rattle.std.specs.Prelude.{◌≡◌, ℕ, ◌≤◌, ◌<◌, ◌++◌, [], false, length, map, take, All, count_by, IfOk, IfErr, OnOk, OnErr, slice_set};
+ghost use Rattle.slot_page.specs.Slots.{fits, slot_at, with_put};
+ghost use Rattle.slot_page.specs.Pages.{page_at, put_tid, with_put_on};
+ghost use Rattle.row_versions.specs.Versions.{IsLineAssigned, is_newly_dead, pruned};
+ghost use Rattle.row_versions.specs.DeadSlots.{dead_tids, is_dead_line};
+
+use crate::TidList;
+use crate::version::Version;
+use slot_page::{NoRoom, Page, Slot, Tid};
+use std::alloc::{AllocError, Global};
+use xact_status::XactTable;
+
+/// Puts a version on the lowest page where it fits.
+fn put_within(
+    pages: &mut [Page<Version>],
+    size: u16,
+    version: Version,
+) -> Result<Tid, NoRoom<Version>>
+    requires least { 24 ≤ size }
+    requires most { size ≤ 8160 }
+    ensures tid { IfOk result (λ tid. tid ≡ put_tid size pages.old) }
+    ensures put { OnOk result (pages.new ≡ with_put_on size version pages.old) }
+    ensures full { OnErr result ((page : ℕ) → page < length pages.old → fits size (page_at pages.old page) ≡ false) }
+    ensures handed_back { IfErr result (λ none. none.item ≡ version) }
+    ensures unchanged { OnErr result (pages.new ≡ pages.old) }
+{
+    let mut version = version;
+    for page in 0..pages.len() {
+        match pages[page].put(size, version) {
+            Ok(slot) => {
+                return Ok(Tid {
+                    page: page as u64,
+                    slot,
+                });
+            }
+            Err(NoRoom { item }) => version = item,
+        }
+    }
+    Err(NoRoom { item: version })
+}
+
+/// A page with one version.
+fn page_with(alloc: Global, size: u16, version: Version) -> Result<Page<Version>, AllocError>
+    requires least { 24 ≤ size }
+    requires most { size ≤ 8160 }
+    ensures { IfOk result (λ page. page ≡ with_put size version []) }
+{
+    let mut page = Page::new(alloc)?;
+    match page.put(size, version) {
+        Ok(_) => Ok(page),
+        Err(_) => unreachable!(),
+    }
+}
+
+/// Puts a version on a new page; it fits on none that is there.
+fn put_after(pages: &mut Vec<Page<Version>>, size: u16, version: Version) -> Result<Tid, AllocError>
+    requires least { 24 ≤ size }
+    requires most { size ≤ 8160 }
+    requires full { (page : ℕ) → page < length pages.old.items → fits size (page_at pages.old.items page) ≡ false }
+    ensures tid { IfOk result (λ tid. tid ≡ put_tid size pages.old.items) }
+    ensures put { OnOk result (pages.new.items ≡ with_put_on size version pages.old.items) }
+    ensures unchanged { OnErr result (pages.new.items ≡ pages.old.items) }
+{
+    let alloc = *pages.allocator();
+    let tid = Tid {
+        page: pages.len() as u64,
+        slot: 0,
+    };
+    let page = page_with(alloc, size, version)?;
+    pages.push(page)?;
+    Ok(tid)
+}
+
+/// Puts a version on the lowest page where it fits, else on a new one.
+pub(crate) fn put_on(
+    pages: &mut Vec<Page<Version>>,
+    size: u16,
+    version: Version,
+) -> Result<Tid, AllocError>
+    requires least { 24 ≤ size }
+    requires most { size ≤ 8160 }
+    ensures tid { IfOk result (λ tid. tid ≡ put_tid size pages.old.items) }
+    ensures put { OnOk result (pages.new.items ≡ with_put_on size version pages.old.items) }
+    ensures unchanged { OnErr result (pages.new.items ≡ pages.old.items) }
+{
+    match put_within(pages, size, version) {
+        Ok(tid) => Ok(tid),
+        Err(NoRoom { item }) => put_after(pages, size, item),
+    }
+}
+
+/// Whether a slot has a version that no reader can see.
+fn has_dead_version(page: &Page<Version>, slot: u16, xacts: &XactTable, horizon: u64) -> bool
+    requires { IsLineAssigned xacts.now (slot_at page.now slot) }
+    ensures { result ≡ is_newly_dead xacts.now horizon (slot_at page.now slot) }
+{
+    match page.get(slot) {
+        Some(version) => version.is_dead(xacts, horizon),
+        None => false,
+    }
+}
+
+/// Whether a slot is dead or has a version that no reader can see.
+fn is_dead_after(page: &Page<Version>, slot: u16, xacts: &XactTable, horizon: u64) -> bool
+    requires { IsLineAssigned xacts.now (slot_at page.now slot) }
+    ensures { result ≡ is_dead_line (pruned xacts.now horizon (slot_at page.now slot)) }
+{
+    matches!(page.state(slot), Slot::Dead) || has_dead_version(page, slot, xacts, horizon)
+}
+
+/// Adds the tids of the slots of a page that are dead after a prune, in order, as far as there is memory.
+fn gather(
+    page: &Page<Version>,
+    number: u64,
+    xacts: &XactTable,
+    horizon: u64,
+    dead: &mut TidList,
+) -> Result<(), AllocError>
+    requires { All (IsLineAssigned xacts.now) page.now }
+    ensures gathered { OnOk result (dead.new ≡ dead.old ++ dead_tids number (map (pruned xacts.now horizon) page.now)) }
+    ensures kept { take (length dead.old) dead.new ≡ dead.old }
+{
+    for slot in 0..page.len() {
+        if is_dead_after(page, slot, xacts, horizon) {
+            dead.push(Tid { page: number, slot })?;
+        }
+    }
+    Ok(())
+}
+
+/// Adds the tids of the slots of a page that are dead after a prune, in order. Where there is no memory,
+/// the list stays.
+pub(crate) fn add_dead(
+    page: &Page<Version>,
+    number: u64,
+    xacts: &XactTable,
+    horizon: u64,
+    dead: &mut TidList,
+) -> Result<(), AllocError>
+    requires { All (IsLineAssigned xacts.now) page.now }
+    ensures gathered { OnOk result (dead.new ≡ dead.old ++ dead_tids number (map (pruned xacts.now horizon) page.now)) }
+    ensures unchanged { OnErr result (dead.new ≡ dead.old) }
+{
+    let before = dead.len();
+    match gather(page, number, xacts, horizon, dead) {
+        Ok(()) => Ok(()),
+        Err(fault) => {
+            dead.truncate(before);
+            Err(fault)
+        }
+    }
+}
+
+/// Makes a slot dead where it has a version that no reader can see, and answers whether it has.
+fn prune_slot(page: &mut Page<Version>, slot: u16, xacts: &XactTable, horizon: u64) -> bool
+    requires there { slot < length page.old }
+    requires assigned { IsLineAssigned xacts.now (slot_at page.old slot) }
+    ensures newly { result ≡ is_newly_dead xacts.now horizon (slot_at page.old slot) }
+    ensures pruned { page.new ≡ slice_set page.old slot (pruned xacts.now horizon (slot_at page.old slot)) }
+{
+    if !has_dead_version(page, slot, xacts, horizon) {
+        return false;
+    }
+    let _version = page.make_dead(slot);
+    true
+}
+
+/// Makes the slots dead whose versions no reader can see, and answers how many they are.
+pub(crate) fn prune(page: &mut Page<Version>, xacts: &XactTable, horizon: u64) -> u32
+    requires { All (IsLineAssigned xacts.now) page.old }
+    ensures count { result ≡ count_by (is_newly_dead xacts.now horizon) page.old }
+    ensures pruned { page.new ≡ map (pruned xacts.now horizon) page.old }
+{
+    let mut count = 0;
+    for slot in 0..page.len() {
+        count += u32::from(prune_slot(page, slot, xacts, horizon));
+    }
+    count
+}

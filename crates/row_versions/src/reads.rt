@@ -1,0 +1,76 @@
+//! What is read of pages through the entries of a key.
+
+ghost use Rattle.std.specs.Prelude.{◌≡◌, find, map, slice_get, IsTrue, option_copied};
+ghost use Rattle.slot_page.specs.Pages.{item_in, slot_of};
+ghost use Rattle.snapshot_registry.specs.Snapshots.{is_registered};
+ghost use Rattle.row_versions.specs.Versions.{IsLineAssigned};
+ghost use Rattle.row_versions.specs.Relations.{AreAssigned, is_seen_at, with_versions};
+
+use crate::keys::KeyEntry;
+use crate::version::Version;
+use slot_page::{Page, Tid};
+use snapshot_registry::{SnapId, SnapRegistry};
+use xact_status::XactTable;
+
+/// The version at a tid, if there is one.
+pub(crate) fn version_at(pages: &[Page<Version>], tid: Tid) -> Option<&Version>
+    ensures { option_copied result ≡ item_in pages.now tid }
+{
+    pages.get(tid.page as usize)?.get(tid.slot)
+}
+
+/// The n-th tid, from 0, of those that the entries name, at which there is a version.
+pub(crate) fn nth_version(pages: &[Page<Version>], entries: &[KeyEntry], n: usize) -> Option<Tid>
+    ensures { result ≡ slice_get (with_versions pages.now entries.now) n }
+{
+    let mut left = n;
+    for entry in entries {
+        if version_at(pages, entry.tid).is_some() {
+            if left == 0 {
+                return Some(entry.tid);
+            }
+            left -= 1;
+        }
+    }
+    None
+}
+
+/// Whether a reader sees the version at a tid, if there is one.
+fn sees(
+    pages: &[Page<Version>],
+    tid: Tid,
+    snap: SnapId,
+    snaps: &SnapRegistry,
+    xacts: &XactTable,
+    own: Option<u64>,
+) -> bool
+    requires registered { IsTrue (is_registered snaps.now snap) }
+    requires assigned { IsLineAssigned xacts.now (slot_of pages.now tid) }
+    ensures { result ≡ is_seen_at xacts.now snaps.now snap own pages.now tid }
+{
+    match version_at(pages, tid) {
+        Some(version) => snaps.sees(snap, xacts, version.inserter, version.ender, own),
+        None => false,
+    }
+}
+
+/// The first tid, of those that the entries name, at which a reader sees the version.
+pub(crate) fn first_seen(
+    pages: &[Page<Version>],
+    entries: &[KeyEntry],
+    snap: SnapId,
+    snaps: &SnapRegistry,
+    xacts: &XactTable,
+    own: Option<u64>,
+) -> Option<Tid>
+    requires registered { IsTrue (is_registered snaps.now snap) }
+    requires assigned { AreAssigned xacts.now pages.now }
+    ensures { result ≡ find (is_seen_at xacts.now snaps.now snap own pages.now) (map (λ entry. entry.tid) entries.now) }
+{
+    for entry in entries {
+        if sees(pages, entry.tid, snap, snaps, xacts, own) {
+            return Some(entry.tid);
+        }
+    }
+    None
+}

@@ -33,58 +33,69 @@ const THREE_BEFORE: &str =
 
 const THREE_BEHIND: &str = "\ns2.4 ok\ns3.3 rolled back\n";
 
+// The length of all replies: 75 bytes before the digits of the row, 5000 digits, and 26 bytes behind them.
+const THREE_LENGTH: usize = 5101;
+
 #[test]
 fn scripts_are_replayed(rt: HostRuntime) -> Result<(), Fail> {
     let alloc = rt.alloc();
-    let words = words_of(alloc, &["replay"])?;
-    for (script, status, replies) in [
-        (FIRST, Status::Done, FIRST_REPLIES),
+    for (script, replies) in [
+        (FIRST, FIRST_REPLIES),
         (
             "table e\nsession\nbegin rc\ninsert t1 1 x010203\nget t1 1\ninsert t1 1 x00\ncommit\n",
-            Status::Done,
             "s1.1 ok\ns1.2 ok\ns1.3 row 1 x010203\ns1.4 taken\ns1.5 rolled back\n",
         ),
         (
             "table e\nsession\nbegin rc\nget t1 -9223372036854775808\ninsert t1 0 xaBCd\nget t1 0\n",
-            Status::Done,
             "s1.1 ok\ns1.2 none\ns1.3 ok\ns1.4 row 0 xabcd\n",
         ),
         (
             "table e # one column\r\n\n\tsession\nbegin   rc\ninsert t1 1 null\nget t1 1\nrollback",
-            Status::Done,
             "s1.1 ok\ns1.2 ok\ns1.3 row 1 null\ns1.4 ok\n",
         ),
         (
             "session\nbegin rc\nsession\ncommit\ngo 2\n",
-            Status::Done,
             "s2.1 outside\ns1.1 ok\n",
         ),
         (
             "session\nbegin rc\ncommit\nsession\nbegin rc\ncommit\nloop 2 2*1 1\n",
-            Status::Done,
             "s2.1 ok\ns1.1 ok\ns2.2 ok\ns1.2 ok\n",
         ),
-        ("", Status::Done, ""),
-        ("table e\n", Status::Done, ""),
-        ("session\ncommit\n", Status::Done, "s1.1 outside\n"),
-        ("session\nget t1 1\n", Status::BadScript { line: 2 }, ""),
-        (
-            "table e\nsession\nbegin rc\ninsert t1 1 x01020",
-            Status::BadScript { line: 4 },
-            "",
-        ),
-        ("session\ngo 2\n", Status::BadScript { line: 2 }, ""),
+        ("", ""),
+        ("table e\n", ""),
+        ("session\ncommit\n", "s1.1 outside\n"),
     ] {
-        let bytes = Bytes::from_slice(alloc, script.as_bytes())?;
-        let mut source = MemSource::new(alloc, bytes, 7, CallList::new(alloc));
-        let mut sink = MemSink::new(alloc, 1000, CallList::new(alloc))?;
-        let mut kept = None;
-        let answer = toast_replay(alloc, &words, &mut source, &mut sink, &mut kept);
-        assert_eq!(rt; answer, status, "{script}");
+        let (status, sink) = replayed(alloc, script)?;
+        assert_eq!(rt; status, Status::Done, "{script}");
         assert_eq!(rt; sink.written(), replies.as_bytes(), "{script}");
-        assert_eq!(rt; kept.is_some(), status == Status::Done, "{script}");
     }
     Ok(())
+}
+
+#[test]
+fn scripts_are_refused_at_their_first_bad_line(rt: HostRuntime) -> Result<(), Fail> {
+    let alloc = rt.alloc();
+    for (script, line) in [
+        ("session\nget t1 1\n", 2),
+        ("table e\nsession\nbegin rc\ninsert t1 1 x01020", 4),
+        ("session\ngo 2\n", 2),
+    ] {
+        let (status, sink) = replayed(alloc, script)?;
+        assert_eq!(rt; status, Status::BadScript { line }, "{script}");
+        assert!(rt; sink.written().is_empty(), "{script}");
+    }
+    Ok(())
+}
+
+// What a script's replay answers, and the sink that it wrote to.
+fn replayed(alloc: Global, script: &str) -> Result<(Status, MemSink), AllocError> {
+    let words = words_of(alloc, &["replay"])?;
+    let bytes = Bytes::from_slice(alloc, script.as_bytes())?;
+    let mut source = MemSource::new(alloc, bytes, 7, CallList::new(alloc));
+    let mut sink = MemSink::new(alloc, 10_000, CallList::new(alloc))?;
+    let mut kept = None;
+    let status = toast_replay(alloc, &words, &mut source, &mut sink, &mut kept);
+    Ok((status, sink))
 }
 
 #[test]
@@ -109,73 +120,80 @@ fn words_sources_and_sinks_are_refused(rt: HostRuntime) -> Result<(), Fail> {
         (&["replay"], 9, 9, 9, Status::WriteFault, "s1.1 ok\ns"),
     ] {
         let words = words_of(alloc, words)?;
-        let bytes = Bytes::from_slice(alloc, FIRST.as_bytes())?;
-        let mut source = MemSource::new(
-            alloc,
-            bytes,
-            50,
-            CallList::from_slice(alloc, &[read_fails])?,
-        );
-        let mut sink = MemSink::new(alloc, room, CallList::from_slice(alloc, &[write_fails])?)?;
-        let mut kept = None;
-        let answer = toast_replay(alloc, &words, &mut source, &mut sink, &mut kept);
+        let (answer, sink) = first_replayed(alloc, &words, read_fails, write_fails, room)?;
         assert_eq!(rt; answer, status);
         assert_eq!(rt; sink.written(), written.as_bytes());
     }
     Ok(())
 }
 
+// The first session's replay, where a call fails at the source and one at the sink.
+fn first_replayed(
+    alloc: Global,
+    words: &BytesList,
+    read_fails: u64,
+    write_fails: u64,
+    room: usize,
+) -> Result<(Status, MemSink), AllocError> {
+    let bytes = Bytes::from_slice(alloc, FIRST.as_bytes())?;
+    let read_fails = CallList::from_slice(alloc, &[read_fails])?;
+    let write_fails = CallList::from_slice(alloc, &[write_fails])?;
+    let mut source = MemSource::new(alloc, bytes, 50, read_fails);
+    let mut sink = MemSink::new(alloc, room, write_fails)?;
+    let mut kept = None;
+    let status = toast_replay(alloc, words, &mut source, &mut sink, &mut kept);
+    Ok((status, sink))
+}
+
 #[test]
 fn the_longest_script_is_read_and_no_longer_one(rt: HostRuntime) -> Result<(), Fail> {
     let alloc = rt.alloc();
-    let words = words_of(alloc, &["replay"])?;
     for (count, status) in [(4_194_304, Status::Done), (4_194_305, Status::TooLong)] {
-        let bytes = Bytes::from_vec(vec![in alloc; b'\n'; count]?);
-        let mut source = MemSource::new(alloc, bytes, 65_536, CallList::new(alloc));
-        let mut sink = MemSink::new(alloc, 10, CallList::new(alloc))?;
-        let mut kept = None;
-        let answer = toast_replay(alloc, &words, &mut source, &mut sink, &mut kept);
+        let answer = feeds_replayed(alloc, count)?;
         assert_eq!(rt; answer, status);
-        assert_eq!(rt; sink.written(), b"".as_slice());
     }
     Ok(())
 }
 
+// What the replay of so many line feeds answers.
+fn feeds_replayed(alloc: Global, count: usize) -> Result<Status, AllocError> {
+    let words = words_of(alloc, &["replay"])?;
+    let bytes = Bytes::from_vec(vec![in alloc; b'\n'; count]?);
+    let mut source = MemSource::new(alloc, bytes, 65_536, CallList::new(alloc));
+    let mut sink = MemSink::new(alloc, 10, CallList::new(alloc))?;
+    let mut kept = None;
+    Ok(toast_replay(alloc, &words, &mut source, &mut sink, &mut kept))
+}
+
 #[test]
 fn three_sessions_take_turns_as_the_schedule_says(rt: HostRuntime) -> Result<(), Fail> {
-    let alloc = rt.alloc();
-    let words = words_of(alloc, &["replay"])?;
-    let bytes = Bytes::from_slice(alloc, THREE.as_bytes())?;
-    let mut source = MemSource::new(alloc, bytes, 100, CallList::new(alloc));
-    let mut sink = MemSink::new(alloc, 6000, CallList::new(alloc))?;
-    let mut kept = None;
-    let answer = toast_replay(alloc, &words, &mut source, &mut sink, &mut kept);
-    assert_eq!(rt; answer, Status::Done);
-    assert!(rt; sink.written().starts_with(THREE_BEFORE.as_bytes()));
-    assert!(rt; sink.written().ends_with(THREE_BEHIND.as_bytes()));
-    let digits = sink.written().len() - THREE_BEFORE.len() - THREE_BEHIND.len();
-    assert_eq!(rt; digits, 5000);
+    let (status, sink) = replayed(rt.alloc(), THREE)?;
+    assert_eq!(rt; status, Status::Done);
+    let text = sink.written();
+    assert!(rt; text.starts_with(THREE_BEFORE.as_bytes()));
+    assert!(rt; text.ends_with(THREE_BEHIND.as_bytes()));
+    assert_eq!(rt; text.len(), THREE_LENGTH);
     Ok(())
 }
 
 #[test]
 fn as_many_sessions_as_there_may_be_take_turns(rt: HostRuntime) -> Result<(), Fail> {
-    let alloc = rt.alloc();
-    let words = words_of(alloc, &["replay"])?;
+    let script = many_sessions(rt.alloc())?;
+    let (status, sink) = replayed(rt.alloc(), script.as_str())?;
+    assert_eq!(rt; status, Status::Done);
+    let text = sink.written();
+    assert!(rt; text.starts_with(b"s64.1 ok\ns1.1 ok\ns2.1 ok\n"));
+    assert!(rt; text.ends_with(b"s62.1 ok\ns63.1 ok\n"));
+    Ok(())
+}
+
+fn many_sessions(alloc: Global) -> Result<String, AllocError> {
     let mut script = String::new(alloc);
     for _ in 0..64 {
         script.push_str("session\nbegin rc\n")?;
     }
     script.push_str("go 64 1\n")?;
-    let bytes = Bytes::from_slice(alloc, script.as_bytes())?;
-    let mut source = MemSource::new(alloc, bytes, 100, CallList::new(alloc));
-    let mut sink = MemSink::new(alloc, 1000, CallList::new(alloc))?;
-    let mut kept = None;
-    let answer = toast_replay(alloc, &words, &mut source, &mut sink, &mut kept);
-    assert_eq!(rt; answer, Status::Done);
-    assert!(rt; sink.written().starts_with(b"s64.1 ok\ns1.1 ok\ns2.1 ok\n"));
-    assert!(rt; sink.written().ends_with(b"s62.1 ok\ns63.1 ok\n"));
-    Ok(())
+    Ok(script)
 }
 
 fn words_of(alloc: Global, words: &[&str]) -> Result<BytesList, AllocError> {

@@ -41,12 +41,13 @@ enum Step {
     Also(Kind),
 }
 
-/// What a line says.
+/// What a line says. A row is that of key 1 where no key is named.
 #[derive(Clone, Copy)]
 enum Said {
     Okay,
     RolledBack,
     Row(Value),
+    RowAt(i64, Value),
     RowOfTwo(Value, Value),
     Bytes(Value),
     Absent,
@@ -263,15 +264,16 @@ fn script_of(alloc: Global, tables: &[&[Storage]], moments: &[Moment]) -> Result
     })
 }
 
-fn row_reply(alloc: Global, values: &[Value]) -> Result<Reply, AllocError> {
+fn row_reply(alloc: Global, key: i64, values: &[Value]) -> Result<Reply, AllocError> {
     let row = row_of(alloc, values)?;
-    Ok(Reply::Row { key: 1, row })
+    Ok(Reply::Row { key, row })
 }
 
 fn reply_of(alloc: Global, said: Said) -> Result<Reply, AllocError> {
     match said {
-        Said::Row(value) => row_reply(alloc, &[value]),
-        Said::RowOfTwo(first, second) => row_reply(alloc, &[first, second]),
+        Said::Row(value) => row_reply(alloc, 1, &[value]),
+        Said::RowAt(key, value) => row_reply(alloc, key, &[value]),
+        Said::RowOfTwo(first, second) => row_reply(alloc, 1, &[first, second]),
         Said::Bytes(value) => Ok(Reply::Bytes(bytes_of(alloc, value)?)),
         said => Ok(small_reply(said)),
     }
@@ -409,6 +411,27 @@ fn slices(rt: HostRuntime) -> Result<(), Broken> {
 }
 
 #[test]
+fn a_value_that_is_set_again(rt: HostRuntime) -> Result<(), Broken> {
+    let moments = [
+        (1, RC, Said::Okay),
+        (
+            1,
+            Step::InsertTwo(1, Value::Count(2500, 7), Value::Byte(1)),
+            Said::Okay,
+        ),
+        (1, Step::Commit, Said::Okay),
+        (1, RC, Said::Okay),
+        (1, Step::Update(2, Value::Byte(2)), Said::Okay),
+        (1, Step::Commit, Said::Okay),
+        (1, RC, Said::Okay),
+        (1, Step::Update(1, Value::Count(2500, 7)), Said::Okay),
+        (1, Step::Commit, Said::Okay),
+    ];
+    assert!(rt; prints(rt.alloc(), &[EP], &moments)?);
+    Ok(())
+}
+
+#[test]
 fn ids_that_wrap(rt: HostRuntime) -> Result<(), Broken> {
     let moments = [
         (1, RC, Said::Okay),
@@ -486,6 +509,30 @@ fn a_reader_and_a_vacuum(rt: HostRuntime) -> Result<(), Broken> {
         (3, Step::VacuumToast, Said::Started),
         (3, END, Said::Done),
         (1, Step::Commit, Said::Okay),
+    ];
+    assert!(rt; prints(rt.alloc(), &[E], &moments)?);
+    Ok(())
+}
+
+#[test]
+fn a_vacuum_beside_a_new_row(rt: HostRuntime) -> Result<(), Broken> {
+    let moments = [
+        (1, RC, Said::Okay),
+        (1, Step::Insert(1, 1, Value::Count(2500, 0)), Said::Okay),
+        (1, Step::Commit, Said::Okay),
+        (1, RC, Said::Okay),
+        (1, Step::Delete, Said::Okay),
+        (1, Step::Commit, Said::Okay),
+        (2, Step::VacuumToast, Said::Started),
+        (1, RC, Said::Okay),
+        (1, Step::Insert(1, 2, Value::Count(2500, 1)), Said::Okay),
+        (1, Step::Commit, Said::Okay),
+        (3, RC, Said::Okay),
+        (3, Step::Get(1, 2), Said::RowAt(2, Value::Count(2500, 1))),
+        (4, RC, Said::Okay),
+        (2, END, Said::Done),
+        (3, Step::Commit, Said::Okay),
+        (4, Step::Rollback, Said::Okay),
     ];
     assert!(rt; prints(rt.alloc(), &[E], &moments)?);
     Ok(())
@@ -671,6 +718,29 @@ fn claims(rt: HostRuntime) -> Result<(), Broken> {
         (3, Step::Rollback, Said::Okay),
     ];
     assert!(rt; prints(rt.alloc(), &[P], &moments)?);
+    Ok(())
+}
+
+#[test]
+fn a_rewrite_between_updates(rt: HostRuntime) -> Result<(), Broken> {
+    let moments = [
+        (1, RC, Said::Okay),
+        (
+            1,
+            Step::InsertTwo(1, Value::Count(1500, 0), Value::Count(1600, 0)),
+            Said::Okay,
+        ),
+        (1, Step::Commit, Said::Okay),
+        (1, RC, Said::Okay),
+        (1, Step::Update(1, Value::Null), Said::Okay),
+        (1, Step::Commit, Said::Okay),
+        (1, Step::Rewrite, Said::Started),
+        (1, END, Said::Done),
+        (1, RC, Said::Okay),
+        (1, Step::Update(1, Value::Byte(1)), Said::Okay),
+        (1, Step::Commit, Said::Okay),
+    ];
+    assert!(rt; prints(rt.alloc(), &[EE], &moments)?);
     Ok(())
 }
 

@@ -376,8 +376,7 @@ fn part_or_put_reply(
             offset,
             length,
         } => {
-            let place = place_of(table, key);
-            let span = span_of(offset, length);
+            let (place, span) = (place_of(table, key), span_of(offset, length));
             let reply = to_part(alloc, store, session, transaction, &place, *column, &span)?;
             Ok(reply)
         }

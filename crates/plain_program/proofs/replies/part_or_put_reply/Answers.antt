@@ -11,7 +11,7 @@ returns-in_ok-reply-in-Part-clause-ok c =
     let reply = λ (p : Place) (span : Span). reply_within [] c.args.store.now c.args.session c.args.transaction.now (Part p.table p.key c.in-Part.column span.offset span.length) in
     rw c.in-Part.is
     (c.in_ok-reply-in-Part.ensures
-    ∙ ap (λ (p : Place). reply p c.span_of-span.result) c.place_of-place.ensures
+    ∙ ap (λ (p : Place). reply p c.span_of-span.result) {y = place c.in-Part.table c.in-Part.key} c.place_of-place.ensures
     ∙ ap (reply (place c.in-Part.table c.in-Part.key)) c.span_of-span.ensures)
 
 pub returns-in_ok-reply-in-Fetch-clause-ok : goal.returns-in_ok-reply-in-Fetch-clause-ok

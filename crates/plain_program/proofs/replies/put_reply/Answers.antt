@@ -29,5 +29,5 @@ returns-in_ok-reply-in-Rekey-clause-ok c =
     rw c.in-Rekey.is
     (c.in_ok-reply-in-Rekey.ensures.ok
     ∙ ap (reply c.place_of-from.result c.place_of-to.result) c.in_ok-row-in-Rekey.ensures
-    ∙ ap (λ (p : Place). reply p c.place_of-to.result (row p)) c.place_of-from.ensures
-    ∙ ap (λ (q : Place). reply from q (row from)) c.place_of-to.ensures)
+    ∙ ap (λ (p : Place). reply p c.place_of-to.result (row p)) {y = from} c.place_of-from.ensures
+    ∙ ap (λ (q : Place). reply from q (row from)) {y = place c.in-Rekey.table c.in-Rekey.to} c.place_of-to.ensures)

@@ -1,0 +1,48 @@
+-- What a list holds, first element by first element, and what a filter of it holds.
+use Rattle.std.proofs.Common.{◌≡◌, ◌⊎◌, inl, inr, Bool, true, false, cond, List, [], ◌∷◌, filter, Contains, refl, sym, ap, ◌∙◌, arith, zero, suc}
+
+-- an empty list holds nothing
+pub none_in_nil : {X : Type 0} (x : X) → Contains [] x → ⊥
+none_in_nil x held = omega (arith, held.1)
+
+-- what a list holds is its first element or held by the rest
+pub cases_in : {X : Type 0} (y : X) (ys : List X) (x : X) → Contains (y ∷ ys) x → (y ≡ x) ⊎ Contains ys x
+cases_in y ys x (zero, below, is) = inl is
+cases_in y ys x (suc k, below, is) = inr (k, omega (arith, below), is)
+
+-- and the converse of both
+pub first_in : {X : Type 0} (y : X) (ys : List X) (x : X) → y ≡ x → Contains (y ∷ ys) x
+first_in y ys x is = (zero, omega arith, is)
+
+pub later_in : {X : Type 0} (y : X) (ys : List X) (x : X) → Contains ys x → Contains (y ∷ ys) x
+later_in y ys x held = (suc held.0, omega (arith, held.1), held.2)
+
+-- what a filter holds passes, and was held
+pub filter_holds : {X : Type 0} (p : X → Bool) (xs : List X) (x : X) → Contains (filter p xs) x → Contains xs x × (p x ≡ true)
+filter_holds p [] x held = absurd (none_in_nil x held)
+filter_holds {X} p (y ∷ ys) x held = by_test (p y) refl held (filter_holds p ys x)
+  where
+    by_test : (b : Bool) → p y ≡ b → Contains (cond b (y ∷ filter p ys) (filter p ys)) x → (Contains (filter p ys) x → Contains ys x × (p x ≡ true)) → Contains (y ∷ ys) x × (p x ≡ true)
+    by_test true passes held' rest = elim (cases_in y (filter p ys) x held') [
+      | inl is ↦ (first_in y ys x is, ap p (sym is) ∙ passes)
+      | inr later ↦ (later_in y ys x (rest later).0, (rest later).1)
+    ]
+    by_test false fails held' rest = (later_in y ys x (rest held').0, (rest held').1)
+
+-- and what passes stays held
+pub held_by_filter : {X : Type 0} (p : X → Bool) (xs : List X) (x : X) → Contains xs x → p x ≡ true → Contains (filter p xs) x
+held_by_filter p [] x held passes = absurd (none_in_nil x held)
+held_by_filter p (y ∷ ys) x held passes = by_test (p y) refl (λ later. held_by_filter p ys x later passes)
+  where
+    clash : true ≡ false → ⊥
+    clash e = cc
+
+    by_test : (b : Bool) → p y ≡ b → (Contains ys x → Contains (filter p ys) x) → Contains (cond b (y ∷ filter p ys) (filter p ys)) x
+    by_test true is rest = elim (cases_in y ys x held) [
+      | inl same ↦ first_in y (filter p ys) x same
+      | inr later ↦ later_in y (filter p ys) x (rest later)
+    ]
+    by_test false is rest = elim (cases_in y ys x held) [
+      | inl same ↦ absurd (clash (sym passes ∙ ap p (sym same) ∙ is))
+      | inr later ↦ rest later
+    ]

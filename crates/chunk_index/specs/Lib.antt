@@ -1,0 +1,5 @@
+pub mod Orders
+pub mod Entries
+pub mod Leaves
+pub mod Pinned
+pub mod Indexes

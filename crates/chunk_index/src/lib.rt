@@ -1,0 +1,23 @@
+//! The index of a table's chunks: the entries in their order, by value id, number and tid, and the pins
+//! that keep a leaf of it as it is for a reader.
+//!
+//! A reader takes the entries that it wants leaf by leaf, and has the leaf pinned until it has read them.
+//! Vacuum sweeps leaf by leaf, and waits for a leaf that is pinned.
+//! Documentation: "TOAST, Out-of-Line, On-Disk TOAST Storage"; "B-Tree Indexes"; "Index Access Method
+//! Interface Definition, Index Locking Considerations".
+#![tactic(auto)]
+
+mod entry;
+mod index;
+mod pins;
+#[cfg(test)]
+mod tests;
+mod wanted;
+
+pub use entry::{Batch, Entry, EntryList, Pin, Swept};
+pub use index::ChunkIndex;
+use list_facts::ListOf;
+use slot_page::Tid;
+
+/// A list of tids.
+pub type TidList = ListOf<Tid>;

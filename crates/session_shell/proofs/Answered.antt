@@ -1,12 +1,12 @@
 -- The replies to the commands that the core takes.
-use Rattle.std.proofs.Common.{◌≡◌, ℕ, Bool, true, false, List, [], ◌∷◌, Option, Some, None, refl, sym, ap, ◌∙◌, subst}
+use Rattle.std.proofs.Common.{◌≡◌, ℕ, Bool, true, false, List, [], ◌∷◌, Option, Some, None, refl, sym, ap}
 use Rattle.std.specs.Prelude.{if◌then◌else◌}
 use Rattle.std.specs.Option.{option_map}
 use Rattle.tuple_layout.specs.declared.Storage.{Storage}
 use Rattle.command_set.specs.declared.state.Plain.{Plain}
 use Rattle.command_set.specs.declared.state.Transaction.{Transaction}
 use Rattle.command_set.specs.Plain.{session_of}
-use Rattle.command_set.specs.Replies.{answers_if, first_of, refusals, granted, is_granted, reply_of, transaction_of}
+use Rattle.command_set.specs.Replies.{answers_if, first_of, refusals, granted, is_granted, transaction_of}
 use Rattle.command_set.specs.Answers.{answer, once_used, table_of}
 use Rattle.command_set.specs.Journals.{is_data, is_started}
 use Rattle.command_set.specs.declared.Command.{Command}

@@ -1,8 +1,7 @@
 -- What the core's calls leave, one after another.
-use Rattle.std.proofs.Common.{◌≡◌, ◌≢◌, ◌<◌, ◌≤◌, ◌-◌, ℕ, Bool, true, false, List, [], ◌∷◌, Option, Some, None, length, slice_set, refl, sym, ap, ◌∙◌, subst, arith, get_or-set_same}
-use Rattle.std.specs.Prelude.{slice_get, if◌then◌else◌}
+use Rattle.std.proofs.Common.{◌≡◌, ◌<◌, ◌-◌, ℕ, true, false, List, Option, Some, None, slice_set, ap, ◌∙◌, subst, arith, get_or-set_same}
+use Rattle.std.specs.Prelude.{if◌then◌else◌}
 use Rattle.tuple_layout.specs.declared.Storage.{Storage}
-use Rattle.command_set.specs.declared.state.Plain.{Plain}
 use Rattle.command_set.specs.Answers.{answer}
 use Rattle.command_set.specs.declared.Command.{Command}
 use Rattle.command_set.specs.declared.Kind.TheVariants as kinds
@@ -16,9 +15,9 @@ use Rattle.toast_core.specs.declared.parts.Seat.{Seat}
 use Rattle.toast_core.specs.State.{CoreState, IsSession, seat_of, nobody}
 use Rattle.toast_core.specs.Events.{after_submit, left}
 use Rattle.toast_core.specs.Sound.{IsBuilt}
-use Rattle.toast_core.specs.Stands.{Stands, StandsOn, Falls, Moved, MovedBy, Runs, Goes, Says, Ends, IsEvent, EventBy, OthersStay, is_past_moment}
+use Rattle.toast_core.specs.Stands.{Stands, StandsOn, Falls, Moved, MovedBy, Runs, Goes, Says, IsEvent, EventBy, is_past_moment}
 use Rattle.session_shell.specs.Hubs.{is_read}
-use Rattle.session_shell.specs.Steps.{BeginsBy, EndsWith, IsStood, StaysFor, StepsLater}
+use Rattle.session_shell.specs.Steps.{BeginsBy, IsStood, StepsLater}
 use Rattle.session_shell.specs.declared.steps.Later.TheVariants as later
 use Rattle.session_shell.proofs.Answered.{said_at_once}
 

@@ -1,6 +1,6 @@
 -- How the sessions finish, one after another.
-use Rattle.std.proofs.Common.{◌≡◌, ◌≢◌, ◌<◌, ◌≤◌, ◌+◌, ◌-◌, ◌⊎◌, inl, inr, ℕ, zero, suc, Bool, true, false, List, [], ◌∷◌, ◌++◌, Option, Some, None, length, get_or, slice_get, slice_set, refl, sym, ap, ◌∙◌, subst, arith, eq-eqb, append_assoc, append-nil, get_or-set_other}
-use Rattle.std.specs.Prelude.{IsTrue, MatchBool, ◌&&◌, ◌==◌, nat_lt, not}
+use Rattle.std.proofs.Common.{◌≡◌, ◌≢◌, ◌<◌, ◌≤◌, ◌+◌, ◌-◌, inl, inr, ℕ, zero, suc, Bool, true, false, List, [], ◌∷◌, ◌++◌, length, get_or, slice_get, refl, sym, ap, ◌∙◌, subst, arith, eq-eqb, append_assoc, append-nil, get_or-set_other}
+use Rattle.std.specs.Prelude.{MatchBool, ◌==◌, nat_lt, not}
 use Rattle.std.specs.List.{list_all, enumerate_from, range_with_len}
 use Rattle.std.specs.Option.{unwrap_or}
 use Rattle.std.proofs.lemmas.Bool.{cases_eq}
@@ -9,20 +9,19 @@ use Rattle.command_set.specs.declared.journal.Told.{Told}
 use Rattle.command_set.specs.declared.Script.{Script}
 use Rattle.command_set.specs.declared.Command.{Command}
 use Rattle.command_set.specs.Journals.{has_ended, is_complete, is_under_way, run_of, told_of, untold}
-use Rattle.toast_core.specs.declared.parts.Job.{Job}
 use Rattle.toast_core.specs.declared.parts.Job.TheVariants as jobs
 use Rattle.toast_core.specs.State.{seat_of}
 use Rattle.toast_core.specs.Stands.{is_past_moment}
 use Rattle.session_shell.specs.declared.hub.Progress.{Progress}
-use Rattle.session_shell.specs.Hubs.{HubState, IsHub, IsSessionOf, commands_of}
+use Rattle.session_shell.specs.Hubs.{HubState, IsHub, commands_of}
 use Rattle.session_shell.specs.Turns.{TurnMade, Place, at_start, place_of, place_after, after_turn, after_turns, Ran, places_in}
-use Rattle.session_shell.specs.Follows.{AllMore, AllOf, EachInTurn, Empties, EmptiesSession, EndsBy, EndsFor, EndsSession, Finishes, IsIdle, IsOver, IsWhole, NoneRests, RunsEmptying, RunsEnding, RunsFinish, RunsWhole}
+use Rattle.session_shell.specs.Follows.{AllMore, AllOf, EachInTurn, Empties, EmptiesSession, EndsBy, EndsFor, EndsSession, IsIdle, IsOver, IsWhole, NoneRests, RunsEmptying, RunsEnding, RunsFinish, RunsWhole}
 use Rattle.session_shell.proofs.Runs.{and_intro}
 use Rattle.std.proofs.lemmas.Option.{unwrap_or-slice_get}
 use Rattle.std.proofs.lemmas.List.{get_or_read}
 use Rattle.session_shell.proofs.Made.{place_in_is}
 use Rattle.session_shell.proofs.Laters.{number_is}
-use Rattle.session_shell.proofs.Turning.{all_of-append, after-append, length-after, ran_none, ran_on}
+use Rattle.session_shell.proofs.Turning.{all_of-append, after-append, ran_none, ran_on}
 use Rattle.session_shell.proofs.Whole.{none_rests-append}
 
 -- turns of one session leave the others' places

@@ -1,8 +1,6 @@
 -- The first entry of a command.
-use Rattle.std.proofs.Common.{◌≡◌, ◌≢◌, ◌<◌, ◌≤◌, ◌+◌, ◌-◌, ◌*◌, ◌⊎◌, inl, inr, ℕ, Bool, true, false, List, [], ◌∷◌, ◌++◌, Option, Some, None, length, slice_get, slice_set, refl, sym, ap, ◌∙◌, subst, arith, length-append, length-set, eq-eqb}
-use Rattle.std.specs.Prelude.{map as mapped, ◌==◌, not, if◌then◌else◌}
-use Rattle.std.specs.Option.{unwrap_or}
-use Rattle.std.specs.List.{sum_by}
+use Rattle.std.proofs.Common.{◌≡◌, ◌≢◌, ◌≤◌, ◌+◌, ◌-◌, inl, inr, ℕ, Bool, true, false, List, [], ◌∷◌, ◌++◌, Option, Some, None, length, slice_get, slice_set, refl, sym, ap, ◌∙◌, subst, arith, length-append, length-set}
+use Rattle.std.specs.Prelude.{◌==◌, not}
 use Rattle.std.proofs.lemmas.Bool.{cases_eq}
 use Rattle.std.proofs.lemmas.Bool.Decides.{nat_tests}
 use Rattle.std.proofs.lemmas.Option.{slice_get_within, same_Some, get_or_from_slice_get}
@@ -23,23 +21,22 @@ use Rattle.command_set.specs.declared.Reply.{Reply}
 use Rattle.command_set.specs.declared.Reply.TheVariants as replies
 use Rattle.command_set.specs.Answers.{answer, with_failure}
 use Rattle.command_set.specs.Replies.{is_granted}
-use Rattle.command_set.specs.Journals.{command_at, told_of, told_more, untold, line_of, after_entry, run_of, is_legal, is_data, is_started, is_under_way, is_run, may_come_first, may_follow, takes_no_memory}
+use Rattle.command_set.specs.Journals.{command_at, told_of, told_more, after_entry, run_of, is_legal, is_data, is_under_way, may_come_first, may_follow}
 use Rattle.toast_core.specs.declared.parts.Job.{Job}
 use Rattle.toast_core.specs.declared.parts.Job.TheVariants as jobs
 use Rattle.toast_core.specs.declared.parts.Seat.{Seat}
 use Rattle.toast_core.specs.State.{CoreState, seat_of, nobody, pending_of}
 use Rattle.toast_core.specs.Sound.{IsBuilt}
-use Rattle.toast_core.specs.Stands.{Stands, Falls, OthersStay, is_past_moment}
+use Rattle.toast_core.specs.Stands.{Stands, OthersStay, is_past_moment}
 use Rattle.session_shell.specs.declared.hub.KeptLine.{KeptLine}
 use Rattle.session_shell.specs.declared.hub.Progress.{Progress}
-use Rattle.session_shell.specs.declared.steps.First.{First}
-use Rattle.session_shell.specs.Hubs.{Keeps, SessionIs, IsBusy, IsBusyBy, IsLine, IsLastEntry, IsScript, replies_of, commands_of, progress_of, kept_of, is_read, most_entries}
+use Rattle.session_shell.specs.Hubs.{Keeps, SessionIs, IsBusy, IsBusyBy, IsLine, IsLastEntry, replies_of, commands_of, progress_of, kept_of}
 use Rattle.session_shell.specs.Turns.{is_one_step}
-use Rattle.session_shell.specs.Steps.{BeginsBy, StepsFirst, SaysFirst}
+use Rattle.session_shell.specs.Steps.{StepsFirst, SaysFirst}
 use Rattle.session_shell.proofs.Answered.{not_started}
 use Rattle.session_shell.proofs.Runs.{legal_push, may_first, run_moment, run_want}
 use Rattle.session_shell.proofs.Frames.{told_here, told_there, seat_there, progress_here, progress_there, one_first}
-use Rattle.session_shell.proofs.Kept.{KeptAs, kept_by, said_of, said_idle, said_before, kept_going, refit, push_both, same_count}
+use Rattle.session_shell.proofs.Kept.{kept_by, said_idle, said_before, kept_going, refit, push_both, same_count}
 
 -- what a command has under way that goes on
 pub busy_past : (script : Script) (s : ℕ) (told : Told) (job : Job) → is_past_moment job ≡ true → IsBusy script s told → IsBusyBy script s told job

@@ -1,24 +1,23 @@
 -- What is told of sessions, their seats and their progress, once one of them has changed.
-use Rattle.std.proofs.Common.{◌≡◌, ◌≢◌, ◌<◌, ◌≤◌, ◌+◌, ◌-◌, ◌*◌, ℕ, zero, suc, inl, inr, Bool, true, false, List, [], ◌∷◌, ◌++◌, Option, Some, None, length, get_or, slice_get, slice_set, refl, sym, ap, ◌∙◌, subst, arith, get_or-set_same, get_or-set_other}
+use Rattle.std.proofs.Common.{◌≡◌, ◌≢◌, ◌<◌, ◌≤◌, ◌+◌, ◌-◌, ◌*◌, ℕ, zero, suc, inl, inr, false, List, [], ◌∷◌, Option, Some, None, length, get_or, slice_get, slice_set, refl, sym, ap, ◌∙◌, subst, arith, get_or-set_same, get_or-set_other}
 use Rattle.std.specs.Prelude.{slice_index_or}
 use Rattle.std.specs.Option.{unwrap_or}
 use Rattle.std.specs.List.{sum_by}
-use Rattle.std.proofs.lemmas.Option.{unwrap_or-slice_get, slice_get_within, slice_get-get_or}
+use Rattle.std.proofs.lemmas.Option.{unwrap_or-slice_get, slice_get-get_or}
 use Rattle.std.proofs.lemmas.Bool.{cases_eq}
 use Rattle.std.proofs.lemmas.List.Sums.{sum_by-cons, sum_by-set}
 use Rattle.list_facts.proofs.Changed.{get_set_same, get_set_other}
-use Rattle.command_set.specs.declared.journal.Run.{Run}
 use Rattle.command_set.specs.declared.journal.Told.{Told}
 use Rattle.command_set.specs.declared.Command.{Command}
 use Rattle.command_set.specs.declared.Kind.{Kind}
 use Rattle.command_set.specs.declared.Kind.TheVariants as kinds
-use Rattle.command_set.specs.Journals.{told_of, untold}
+use Rattle.command_set.specs.Journals.{untold}
 use Rattle.toast_core.specs.declared.parts.Seat.{Seat}
 use Rattle.toast_core.specs.State.{CoreState, seat_of, nobody}
 use Rattle.toast_core.specs.Stands.{OthersStay, is_past_moment}
 use Rattle.session_shell.specs.declared.hub.Progress.{Progress}
 use Rattle.session_shell.specs.Hubs.{progress_of, at_start, most_entries, most_entries_by}
-use Rattle.session_shell.specs.Turns.{Place, places_by, place_of}
+use Rattle.session_shell.specs.Turns.{Place, places_by}
 
 -- two lists with the same at each place are one
 pub same_by_get : {X : Type 0} (xs ys : List X) → ((k : ℕ) → slice_get xs k ≡ slice_get ys k) → xs ≡ ys

@@ -1,12 +1,11 @@
 -- A script that has run.
-use Rattle.std.proofs.Common.{◌≡◌, ◌<◌, ◌≤◌, ◌+◌, ℕ, Bool, true, false, List, [], ◌∷◌, ◌++◌, Option, Some, None, replicate, length, refl, sym, ap, ◌∙◌, subst, arith}
+use Rattle.std.proofs.Common.{◌≡◌, true, List, [], ◌++◌, replicate, length, sym, ap, ◌∙◌, subst}
 use Rattle.command_set.specs.declared.Script.{Script}
 use Rattle.command_set.specs.declared.JournalEntry.{JournalEntry}
-use Rattle.command_set.specs.declared.journal.Run.{Run}
 use Rattle.command_set.specs.Journals.{first_run, is_complete, is_legal, run_of}
 use Rattle.session_shell.specs.Hubs.{HubState}
-use Rattle.session_shell.specs.Turns.{Place, TurnMade, AreTurns, after_turns, entries_of, places_in, at_start}
-use Rattle.session_shell.specs.Follows.{AreOfItems, Finishes, Follows, RunsFinish, RunsItems, first_places, items_of}
+use Rattle.session_shell.specs.Turns.{Place, AreTurns, after_turns, entries_of, places_in, at_start}
+use Rattle.session_shell.specs.Follows.{AreOfItems, Finishes, RunsFinish, RunsItems, items_of}
 use Rattle.session_shell.specs.Replay.{HasRun}
 use Rattle.session_shell.proofs.Turning.{ran_on}
 

@@ -1,21 +1,17 @@
 -- The kept lines beside the printed ones.
-use Rattle.std.proofs.Common.{◌≡◌, ◌≢◌, ◌<◌, ◌≤◌, ◌+◌, ◌-◌, ℕ, zero, suc, Bool, true, false, List, [], ◌∷◌, ◌++◌, Option, Some, None, length, slice_get, slice_set, refl, sym, ap, ◌∙◌, subst, arith, eq-eqb}
+use Rattle.std.proofs.Common.{◌≡◌, ◌≢◌, ℕ, zero, suc, Bool, true, false, List, [], ◌∷◌, ◌++◌, Option, Some, None, length, slice_get, refl, ap, ◌∙◌, arith, eq-eqb}
 use Rattle.std.specs.Prelude.{◌&&◌, ◌==◌, if◌then◌else◌}
 use Rattle.std.specs.Option.{option_map, option_map_or}
-use Rattle.std.proofs.lemmas.Bool.{cases_eq}
 use Rattle.std.proofs.lemmas.Bool.Decides.{nat_tests}
 use Rattle.command_set.specs.declared.journal.Line.{Line}
-use Rattle.command_set.specs.declared.journal.Run.{Run}
 use Rattle.command_set.specs.declared.Script.{Script}
 use Rattle.command_set.specs.declared.Command.{Command}
-use Rattle.command_set.specs.declared.Reply.{Reply}
-use Rattle.command_set.specs.Journals.{command_at, told_of}
+use Rattle.command_set.specs.Journals.{command_at}
 use Rattle.toast_core.specs.declared.parts.Job.{Job}
 use Rattle.toast_core.specs.declared.parts.Job.TheVariants as jobs
-use Rattle.toast_core.specs.State.{CoreState, seat_of}
 use Rattle.toast_core.specs.Stands.{is_past_moment}
 use Rattle.session_shell.specs.declared.hub.KeptLine.{KeptLine}
-use Rattle.session_shell.specs.Hubs.{is_read, kept_of}
+use Rattle.session_shell.specs.Hubs.{is_read}
 use Rattle.session_shell.proofs.Runs.{and_none}
 
 -- a kept line, by how many commands of its session have begun, and by the session's job

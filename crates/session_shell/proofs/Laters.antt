@@ -1,27 +1,23 @@
 -- The later steps of a command.
-use Rattle.std.proofs.Common.{◌≡◌, ◌≢◌, ◌<◌, ◌≤◌, ◌+◌, ◌-◌, ◌*◌, ◌⊎◌, inl, inr, ℕ, Bool, true, false, List, [], ◌∷◌, ◌++◌, Option, Some, None, length, get_or, slice_get, slice_set, refl, sym, ap, ◌∙◌, subst, arith, length-append, length-set, eq-eqb, append-nil}
-use Rattle.std.specs.Prelude.{map as mapped, ◌==◌, ◌&&◌, ◌||◌, slice_index_or, if◌then◌else◌}
+use Rattle.std.proofs.Common.{◌≡◌, ◌≢◌, ◌<◌, ◌≤◌, ◌-◌, ◌*◌, inl, inr, ℕ, Bool, true, false, List, [], ◌∷◌, ◌++◌, Option, Some, None, length, get_or, slice_get, slice_set, refl, sym, ap, ◌∙◌, subst, arith, length-append, length-set, eq-eqb, append-nil}
+use Rattle.std.specs.Prelude.{◌==◌, ◌&&◌, ◌||◌, slice_index_or, if◌then◌else◌}
 use Rattle.std.specs.Option.{option_map, unwrap_or}
-use Rattle.std.specs.List.{sum_by}
 use Rattle.std.proofs.lemmas.Bool.{cases_eq}
 use Rattle.std.proofs.lemmas.Bool.Decides.{nat_tests}
-use Rattle.std.proofs.lemmas.Option.{slice_get_within, same_Some, get_or_from_slice_get, slice_get-map, slice_get-get_or}
+use Rattle.std.proofs.lemmas.Option.{slice_get_within, same_Some, get_or_from_slice_get, slice_get-map}
 use Rattle.std.proofs.lemmas.List.{map-set, length-map, get_or_read}
 use Rattle.list_facts.proofs.Changed.{get_set_same, get_set_other, get_push_at, set_same}
-use Rattle.command_set.specs.declared.state.Plain.{Plain}
 use Rattle.command_set.specs.declared.journal.Line.{Line}
 use Rattle.command_set.specs.declared.journal.Run.{Run}
 use Rattle.command_set.specs.declared.journal.Told.{Told}
 use Rattle.command_set.specs.declared.Script.{Script}
 use Rattle.command_set.specs.declared.JournalEntry.{JournalEntry}
-use Rattle.command_set.specs.declared.Kind.{Kind}
 use Rattle.command_set.specs.declared.Kind.TheVariants as kinds
-use Rattle.command_set.specs.declared.Command.{Command}
 use Rattle.command_set.specs.declared.Reply.{Reply}
 use Rattle.command_set.specs.declared.Reply.TheVariants as replies
 use Rattle.command_set.specs.Answers.{with_failure}
 use Rattle.command_set.specs.Replies.{is_granted}
-use Rattle.command_set.specs.Journals.{command_at, told_of, told_more, untold, corrected, with_reply, after_entry, run_of, is_legal, is_data, is_run, is_started, may_come_second, may_follow}
+use Rattle.command_set.specs.Journals.{told_of, told_more, untold, corrected, with_reply, run_of, is_data, is_run, is_started, may_follow}
 use Rattle.toast_core.specs.declared.parts.Job.{Job}
 use Rattle.toast_core.specs.declared.parts.Job.TheVariants as jobs
 use Rattle.toast_core.specs.declared.parts.Seat.{Seat}
@@ -31,16 +27,16 @@ use Rattle.session_shell.specs.declared.hub.KeptLine.{KeptLine}
 use Rattle.session_shell.specs.declared.hub.Progress.{Progress}
 use Rattle.session_shell.specs.declared.hub.Turn.{Turn}
 use Rattle.session_shell.specs.declared.hub.Turn.TheVariants as turns
-use Rattle.session_shell.specs.Hubs.{HubState, IsHub, Keeps, SessionIs, IsBusy, IsBusyBy, IsLine, IsLastEntry, replies_of, progress_of, at_start, kept_of, most_entries}
+use Rattle.session_shell.specs.Hubs.{HubState, IsHub, Keeps, SessionIs, IsBusy, IsBusyBy, IsLine, IsLastEntry, replies_of, progress_of, at_start, kept_of}
 use Rattle.session_shell.specs.Lines.{no_line, with_reply as replied}
 use Rattle.session_shell.specs.Steps.{StaysFor, EndsWith}
-use Rattle.session_shell.specs.Turns.{TurnMade, Place, Nothing, More, Ended, end_of, place_after, IsTurn, MakesTurn, Ran, turn_made}
+use Rattle.session_shell.specs.Turns.{TurnMade, Nothing, Ended, end_of, place_after, IsTurn, MakesTurn, Ran, turn_made}
 use Rattle.script_text.specs.Scripts.{command_count}
 use Rattle.session_shell.proofs.Runs.{and_intro, legal_push, may_second, run_push, run_want_later}
 use Rattle.session_shell.proofs.Frames.{told_here, told_there, seat_there, progress_here, progress_there, one_second}
-use Rattle.session_shell.proofs.Kept.{KeptAs, kept_by, said_of, said_idle, said_before, refit}
+use Rattle.session_shell.proofs.Kept.{KeptAs, kept_by, said_idle, said_before, refit}
 use Rattle.session_shell.proofs.Firsts.{busy_past, busy_idle, session_at, entry_stays, stands_forget}
-use Rattle.session_shell.proofs.Made.{fits, named_last, ran_one, others_same, told_get}
+use Rattle.session_shell.proofs.Made.{fits, named_last, ran_one, told_get}
 
 -- a command that has passed its moment
 pub busy_of : (script : Script) (s : ℕ) (told : Told) (job : Job) → is_past_moment job ≡ true → IsBusyBy script s told job → IsBusy script s told

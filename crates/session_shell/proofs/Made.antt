@@ -1,6 +1,6 @@
 -- One turn of a hub.
-use Rattle.std.proofs.Common.{◌≡◌, ◌≢◌, ◌<◌, ◌≤◌, ◌+◌, ◌-◌, ◌*◌, ℕ, Bool, true, false, zero, suc, get_or, List, [], ◌∷◌, ◌++◌, Option, Some, None, length, slice_get, slice_set, refl, sym, ap, ◌∙◌, subst, arith, length-append, append-nil}
-use Rattle.std.specs.Prelude.{slice_index_or, if◌then◌else◌}
+use Rattle.std.proofs.Common.{◌≡◌, ◌<◌, ◌≤◌, ◌+◌, ◌-◌, ◌*◌, ℕ, Bool, true, false, zero, suc, get_or, List, [], ◌∷◌, ◌++◌, Some, None, length, slice_get, slice_set, refl, sym, ap, ◌∙◌, subst, arith, length-append, append-nil}
+use Rattle.std.specs.Prelude.{if◌then◌else◌}
 use Rattle.std.specs.Option.{unwrap_or}
 use Rattle.std.specs.List.{sum_by}
 use Rattle.std.proofs.lemmas.Option.{slice_get-get_or, unwrap_or-slice_get}
@@ -14,14 +14,13 @@ use Rattle.command_set.specs.declared.JournalEntry.{JournalEntry}
 use Rattle.command_set.specs.declared.Kind.{Kind}
 use Rattle.command_set.specs.declared.Kind.TheVariants as kinds
 use Rattle.command_set.specs.declared.Command.{Command}
-use Rattle.command_set.specs.declared.Reply.{Reply}
 use Rattle.command_set.specs.Answers.{answer}
 use Rattle.command_set.specs.Replies.{is_granted}
-use Rattle.command_set.specs.Journals.{command_at, told_of, untold, after_entry, run_of, is_run}
+use Rattle.command_set.specs.Journals.{command_at, told_of, untold, run_of}
 use Rattle.toast_core.specs.declared.parts.Job.{Job}
 use Rattle.toast_core.specs.declared.parts.Job.TheVariants as jobs
 use Rattle.toast_core.specs.declared.parts.Seat.{Seat}
-use Rattle.toast_core.specs.State.{CoreState, seat_of, nobody}
+use Rattle.toast_core.specs.State.{CoreState, seat_of}
 use Rattle.toast_core.specs.Stands.{OthersStay, is_past_moment}
 use Rattle.script_text.specs.Scripts.{command_count}
 use Rattle.session_shell.specs.declared.hub.KeptLine.{KeptLine}
@@ -29,13 +28,13 @@ use Rattle.session_shell.specs.declared.hub.Progress.{Progress}
 use Rattle.session_shell.specs.declared.hub.Turn.{Turn}
 use Rattle.session_shell.specs.declared.hub.Turn.TheVariants as turns
 use Rattle.session_shell.specs.declared.steps.First.{First}
-use Rattle.session_shell.specs.Hubs.{HubState, IsHub, Keeps, IsLastEntry, at_start, progress_of, most_entries}
+use Rattle.session_shell.specs.Hubs.{HubState, IsHub, Keeps, IsLastEntry, at_start, progress_of}
 use Rattle.session_shell.specs.Steps.{BeginsBy}
-use Rattle.session_shell.specs.Turns.{TurnMade, Place, End, Nothing, More, Ended, place_of, places_by, places_in, place_after, IsTurn, BeginsBy as TurnBeginsBy, Ran, MakesTurn, NamesLast, entry_in, turn_made, end_of, is_one_step}
+use Rattle.session_shell.specs.Turns.{TurnMade, Place, More, Ended, place_of, places_by, places_in, place_after, IsTurn, BeginsBy as TurnBeginsBy, Ran, MakesTurn, NamesLast, entry_in, turn_made, is_one_step}
 use Rattle.session_shell.proofs.Runs.{run_push}
 use Rattle.session_shell.proofs.Frames.{length-places, place_is, places_set, seats_set, progress_here, told_here, all_entries}
 use Rattle.session_shell.proofs.Kept.{same_count}
-use Rattle.session_shell.proofs.Firsts.{FirstKept, first_by}
+use Rattle.session_shell.proofs.Firsts.{first_by}
 
 -- the others stay where nothing changes
 pub others_same : (core : CoreState) (s : ℕ) → OthersStay core s core

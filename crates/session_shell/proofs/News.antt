@@ -1,15 +1,13 @@
 -- A hub before its first turn, and what a session has under way.
-use Rattle.std.proofs.Common.{◌≡◌, ◌<◌, ◌≤◌, ◌-◌, ℕ, zero, suc, Bool, true, false, List, [], ◌∷◌, Option, Some, None, length, get_or, slice_get, replicate, refl, sym, ap, ◌∙◌, subst, arith}
+use Rattle.std.proofs.Common.{◌≡◌, ◌-◌, ℕ, zero, suc, true, false, List, [], ◌∷◌, Option, None, length, get_or, slice_get, replicate, refl, sym, ap, ◌∙◌, subst, arith}
 use Rattle.std.specs.Prelude.{map as mapped}
 use Rattle.std.specs.Option.{unwrap_or}
-use Rattle.std.specs.List.{sum_by}
 use Rattle.std.proofs.lemmas.List.{length-replicate}
 use Rattle.command_set.specs.declared.journal.Told.{Told}
 use Rattle.command_set.specs.declared.Script.{Script}
 use Rattle.command_set.specs.declared.Reply.{Reply}
 use Rattle.command_set.specs.Plain.{first_state}
 use Rattle.command_set.specs.Journals.{first_run, untold, told_of, run_of}
-use Rattle.toast_core.specs.declared.Under.{Under}
 use Rattle.toast_core.specs.declared.Under.TheVariants as under
 use Rattle.toast_core.specs.declared.parts.Job.{Job}
 use Rattle.toast_core.specs.declared.parts.Job.TheVariants as jobs
@@ -19,7 +17,7 @@ use Rattle.toast_core.specs.Stands.{Stands, is_past_moment, under_of}
 use Rattle.session_shell.specs.declared.hub.Progress.{Progress}
 use Rattle.command_set.specs.declared.JournalEntry.{JournalEntry}
 use Rattle.session_shell.specs.declared.hub.KeptLine.{KeptLine}
-use Rattle.session_shell.specs.Hubs.{IsHub, Keeps, SessionIs, IsScript, IsBusyBy, replies_of, at_start, progress_of}
+use Rattle.session_shell.specs.Hubs.{IsHub, Keeps, SessionIs, IsScript, IsBusyBy, at_start, progress_of}
 use Rattle.session_shell.specs.Turns.{Place, places_by}
 use Rattle.session_shell.proofs.Firsts.{session_at}
 

@@ -1,14 +1,12 @@
 -- What a journal with one entry more tells.
-use Rattle.std.proofs.Common.{◌≡◌, ◌<◌, ◌≤◌, ◌+◌, ℕ, Bool, true, false, List, [], ◌∷◌, ◌++◌, Option, Some, None, refl, sym, ap, ◌∙◌, subst, arith, eq-eqb}
+use Rattle.std.proofs.Common.{◌≡◌, ◌≤◌, ◌+◌, ℕ, Bool, true, false, List, [], ◌∷◌, ◌++◌, Option, Some, None, refl, sym, ap, ◌∙◌, arith, eq-eqb}
 use Rattle.std.specs.Prelude.{◌&&◌, ◌||◌, ◌==◌, nat_lt, not, is_some, if◌then◌else◌}
 use Rattle.std.specs.Option.{option_map_or}
 use Rattle.std.specs.List.{filter}
 use Rattle.std.proofs.lemmas.Bool.Decides.{nat_tests}
 use Rattle.command_set.specs.declared.state.Plain.{Plain}
 use Rattle.command_set.specs.declared.state.Running.{Running}
-use Rattle.command_set.specs.declared.journal.Line.{Line}
 use Rattle.command_set.specs.declared.journal.Run.{Run}
-use Rattle.command_set.specs.declared.journal.Told.{Told}
 use Rattle.command_set.specs.declared.Script.{Script}
 use Rattle.command_set.specs.declared.JournalEntry.{JournalEntry}
 use Rattle.command_set.specs.declared.Kind.{Kind}
@@ -16,8 +14,8 @@ use Rattle.command_set.specs.declared.Kind.TheVariants as kinds
 use Rattle.command_set.specs.declared.Command.{Command}
 use Rattle.command_set.specs.declared.Reply.{Reply}
 use Rattle.command_set.specs.declared.Reply.TheVariants as replies
-use Rattle.command_set.specs.Answers.{answer, with_failure}
-use Rattle.command_set.specs.Journals.{command_at, told_of, told_more, line_of, with_reply, reply_before, lines_cut_short, without_upkeep, cut_short, after_moment, after_entry, run_on, run_of, first_run, is_legal, is_run, is_data, is_under_way, may_come_first, may_come_second, may_follow, may_follow_on}
+use Rattle.command_set.specs.Answers.{with_failure}
+use Rattle.command_set.specs.Journals.{command_at, told_of, told_more, line_of, with_reply, reply_before, lines_cut_short, cut_short, after_moment, after_entry, run_on, run_of, first_run, is_legal, is_run, is_data, is_under_way, may_come_first, may_come_second, may_follow, may_follow_on}
 
 pub and_intro : (a b : Bool) → a ≡ true → b ≡ true → (a && b) ≡ true
 and_intro true b e h = h

@@ -1,5 +1,5 @@
 -- The scripts that bytes spell are ones that a hub runs.
-use Rattle.std.proofs.Common.{◌≡◌, ◌<◌, ◌≤◌, ◌+◌, ◌-◌, ◌⊎◌, inl, inr, ℕ, zero, suc, Bool, true, false, List, [], ◌∷◌, ◌++◌, Option, Some, None, Result, Ok, Err, length, take, drop, slice_get, refl, sym, ap, ◌∙◌, subst, arith, length-append}
+use Rattle.std.proofs.Common.{◌≡◌, ◌<◌, ◌≤◌, ◌+◌, ◌-◌, inl, inr, ℕ, zero, suc, Bool, true, false, List, [], ◌∷◌, ◌++◌, Option, Some, None, Result, Ok, Err, length, take, drop, slice_get, refl, sym, ap, ◌∙◌, subst, arith}
 use Rattle.std.specs.Prelude.{◌==◌, ◌&&◌, nat_le, codes, if◌then◌else◌}
 use Rattle.std.specs.Option.{ok_or, unwrap_or}
 use Rattle.std.proofs.lemmas.Bool.Decides.{nat_tests}
@@ -13,7 +13,6 @@ use Rattle.command_set.specs.declared.Item.{Item}
 use Rattle.command_set.specs.declared.Item.TheVariants.{Once, Times, Whole}
 use Rattle.command_set.specs.declared.Command.{Command}
 use Rattle.command_set.specs.declared.Command.TheVariants as commands
-use Rattle.command_set.specs.Journals.{command_at}
 use Rattle.script_text.specs.Lines.{lines, content, words}
 use Rattle.script_text.specs.Numbers.{number_in, key_in, is_canonical}
 use Rattle.script_text.specs.Words.{none, one, two, first_of, first_of_all, table_in, columns_of}
@@ -24,7 +23,7 @@ use Rattle.std.specs.List.{after_first, before_first, list_any}
 use Rattle.std.specs.Str.{bytes_eq}
 use Rattle.script_text.specs.Forms.{form_in, table_line, begin_line, bare_line, get_line, insert_line, go_line, loop_line}
 use Rattle.script_text.specs.Reading.{◌>>=◌}
-use Rattle.script_text.specs.Scripts.{empty_script, is_none_of, is_placed, line_in, with_command, with_line, command_count, is_within, limited, with_form, with_known, with_words, next_number, goes_on, after_lines, script_in}
+use Rattle.script_text.specs.Scripts.{empty_script, is_none_of, is_placed, line_in, with_command, with_line, is_within, limited, with_known, with_words, next_number, goes_on, after_lines, script_in}
 use Rattle.script_text.specs.declared.fault.LineFault.{LineFault}
 use Rattle.script_text.specs.declared.fault.LineFault.TheVariants.{BadName}
 use Rattle.script_text.specs.declared.fault.ScriptFault.{ScriptFault}
@@ -32,9 +31,8 @@ use Rattle.script_text.specs.declared.forms.Form.{Form}
 use Rattle.script_text.specs.declared.forms.Form.TheVariants as forms
 use Rattle.script_text.specs.declared.forms.Line.{Line}
 use Rattle.script_text.specs.declared.forms.Line.TheVariants as line
-use Rattle.script_text.proofs.Counts.{length-with_command}
 use Rattle.toast_core.specs.Sound.{AreBuilt, IsBuilt}
-use Rattle.session_shell.specs.Hubs.{IsScript, IsSessionOf, session_in}
+use Rattle.session_shell.specs.Hubs.{IsScript, session_in}
 use Rattle.session_shell.proofs.Runs.{and_left, and_right}
 
 -- a step that found no fault, and the next

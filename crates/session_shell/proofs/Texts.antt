@@ -1,5 +1,5 @@
 -- The text of a hub's lines where nothing is under way.
-use Rattle.std.proofs.Common.{◌≡◌, ◌<◌, ◌≤◌, ◌+◌, ◌-◌, ◌⊎◌, inl, inr, ℕ, zero, suc, Bool, true, false, List, [], ◌∷◌, ◌++◌, Option, Some, None, length, get_or, slice_get, refl, sym, ap, ◌∙◌, subst, arith}
+use Rattle.std.proofs.Common.{◌≡◌, ◌<◌, ◌≤◌, ◌-◌, inl, inr, ℕ, suc, Bool, true, false, List, [], ◌∷◌, ◌++◌, Option, Some, None, length, get_or, slice_get, refl, sym, ap, ◌∙◌, arith}
 use Rattle.std.specs.Prelude.{is_some, ◌==◌, ◌&&◌, if◌then◌else◌}
 use Rattle.std.specs.List.{flat_map}
 use Rattle.std.specs.Option.{option_map, option_map_or}
@@ -8,7 +8,6 @@ use Rattle.std.proofs.lemmas.List.{get_or_past}
 use Rattle.std.proofs.lemmas.Option.{slice_get_read, same_Some}
 use Rattle.command_set.specs.declared.journal.Line.{Line}
 use Rattle.command_set.specs.declared.Script.{Script}
-use Rattle.command_set.specs.declared.Reply.{Reply}
 use Rattle.command_set.specs.Journals.{command_at, run_of, told_of}
 use Rattle.toast_core.specs.declared.parts.Job.{Job}
 use Rattle.toast_core.specs.declared.parts.Seat.{Seat}

@@ -1,6 +1,5 @@
 -- Turns one after another.
-use Rattle.std.proofs.Common.{◌≡◌, ◌≢◌, ◌<◌, ◌≤◌, ◌+◌, ◌-◌, ℕ, zero, suc, Bool, true, false, List, [], ◌∷◌, ◌++◌, Option, Some, None, length, slice_get, slice_set, take, get_or, add-one, refl, sym, ap, ◌∙◌, subst, arith, length-append, length-set, append-nil, append_assoc}
-use Rattle.std.specs.List.{flat_map}
+use Rattle.std.proofs.Common.{◌≡◌, ◌<◌, ◌+◌, ◌-◌, ℕ, zero, suc, List, [], ◌∷◌, ◌++◌, Some, length, slice_get, take, get_or, add-one, refl, sym, ap, ◌∙◌, subst, length-append, length-set, append-nil, append_assoc}
 use Rattle.std.proofs.lemmas.List.{take_more}
 use Rattle.std.proofs.lemmas.List.Concat.{flat_map-append}
 use Rattle.std.proofs.lemmas.Option.{slice_get_within, get_or_from_slice_get}
@@ -13,8 +12,8 @@ use Rattle.command_set.specs.declared.JournalEntry.{JournalEntry}
 use Rattle.command_set.specs.Journals.{run_of, run_on, first_run}
 use Rattle.session_shell.specs.declared.hub.Turn.{Turn}
 use Rattle.session_shell.specs.Hubs.{HubState}
-use Rattle.session_shell.specs.Turns.{TurnMade, Place, place_of, after_turn, after_turns, entries_of, entry_in, AreTurns, Ran, MakesTurn, places_in}
-use Rattle.session_shell.specs.Follows.{AllOf, AreOfItem, AreOfItems, Splits, RunsItem, RunsItems, repeated, items_in, items_of}
+use Rattle.session_shell.specs.Turns.{TurnMade, Place, after_turn, after_turns, entries_of, entry_in, AreTurns, Ran, MakesTurn, places_in}
+use Rattle.session_shell.specs.Follows.{AllOf, AreOfItems, RunsItem, RunsItems, repeated, items_in, items_of}
 use Rattle.session_shell.proofs.Runs.{run_on-append}
 
 -- the entries of turns

@@ -1,8 +1,7 @@
 -- What a hub holds, and what is true of every hub: the fact of its type.
-use Rattle.std.specs.Prelude.{◌≡◌, ◌⊎◌, ℕ, ◌+◌, ◌-◌, ◌*◌, ◌≤◌, Bool, true, false, ◌&&◌, List, [], ◌∷◌, Option, Some, None, length, map as mapped, slice_get, slice_index_or, ◌==◌, if◌then◌else◌}
+use Rattle.std.specs.Prelude.{◌≡◌, ℕ, ◌-◌, ◌*◌, ◌≤◌, Bool, true, false, ◌&&◌, List, [], Option, Some, None, length, map as mapped, slice_get, slice_index_or, ◌==◌, if◌then◌else◌}
 use Rattle.std.specs.List.{sum_by}
 use Rattle.std.specs.Option.{option_map, option_map_or, unwrap_or}
-use Rattle.command_set.specs.declared.state.Plain.{Plain}
 use Rattle.command_set.specs.Replies.{is_granted}
 use Rattle.command_set.specs.declared.journal.Line.{Line}
 use Rattle.command_set.specs.declared.journal.Run.{Run}
@@ -21,7 +20,6 @@ use Rattle.command_set.specs.declared.Reply.{Reply}
 use Rattle.script_text.specs.Scripts.{command_count}
 use Rattle.toast_core.specs.declared.parts.Job.{Job}
 use Rattle.toast_core.specs.declared.parts.Job.TheVariants as jobs
-use Rattle.toast_core.specs.declared.parts.Seat.{Seat}
 use Rattle.toast_core.specs.State.{CoreState, seat_of}
 use Rattle.toast_core.specs.Sound.{AreBuilt, IsBuilt}
 use Rattle.toast_core.specs.Stands.{Stands, is_past_moment}

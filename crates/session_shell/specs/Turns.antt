@@ -1,5 +1,5 @@
 -- Turns of a hub: what each adds to the journal, and where it leaves its session.
-use Rattle.std.specs.Prelude.{◌≡◌, ◌≢◌, ℕ, ◌+◌, ◌-◌, Bool, true, false, List, [], ◌∷◌, ◌++◌, Option, Some, None, length, slice_get, slice_set, slice_index_or, replicate, if◌then◌else◌}
+use Rattle.std.specs.Prelude.{◌≡◌, ◌≢◌, ℕ, ◌+◌, ◌-◌, Bool, true, false, List, [], ◌∷◌, ◌++◌, Option, Some, None, slice_set, slice_index_or, if◌then◌else◌}
 use Rattle.command_set.specs.Replies.{is_granted}
 use Rattle.command_set.specs.Answers.{answer}
 use Rattle.command_set.specs.declared.journal.Run.{Run}

@@ -274,6 +274,7 @@ impl Hub {
         requires { IsSessionOf self.old.script session }
         ensures { RunsWhole self.old session self.new }
     {
+        // What is true of every hub is known where a field is named.
         let _ = &self.core;
         let mut turn = self.turn(session);
         while let Turn::More = turn {
@@ -327,6 +328,7 @@ impl Hub {
             let session = (at + 1) as u16;
             self.empty_session(session);
         }
+        // What is true of every hub is known where a field is named.
         let _ = &self.journal;
     }
 

@@ -1,5 +1,4 @@
 use Rattle.session_shell.proofs.Headline.{has_run}
-use Rattle.session_shell.proofs.Scripted.{script_is}
 use Rattle.session_shell.proofs.replay.run_script.Goals as goal
 
 pub returns-clause-run : goal.returns-clause-run

@@ -1,5 +1,5 @@
 -- A command begins: what is recorded keeps the hub, and there is room for it.
-use Rattle.std.proofs.Common.{ℕ, ◌+◌, ◌-◌, length, arith, rules, sym, ap, ◌∙◌}
+use Rattle.std.proofs.Common.{ℕ, ◌+◌, arith, rules, sym, ap, ◌∙◌}
 use Rattle.std.specs.Prelude.{if◌then◌else◌}
 use Rattle.std.proofs.lemmas.List.{length-map}
 use Rattle.command_set.specs.declared.journal.Told.{Told}

@@ -1,4 +1,4 @@
-use Rattle.std.proofs.Common.{◌≡◌, ℕ, true, ◌+◌, ◌<◌, ◌≤◌, arith, length, ap, sym, subst, ◌∙◌}
+use Rattle.std.proofs.Common.{◌≡◌, ℕ, true, ◌+◌, ◌≤◌, arith, length, ap, sym, subst, ◌∙◌}
 use Rattle.command_set.specs.declared.Script.{Script}
 use Rattle.command_set.specs.Journals.{is_complete, is_legal}
 use Rattle.session_shell.specs.Hubs.{HubState}

@@ -1,4 +1,4 @@
-use Rattle.session_shell.proofs.Finishing.{emptied_all, emptied_more, emptied_none, fewer_commands}
+use Rattle.session_shell.proofs.Finishing.{emptied_more, emptied_none}
 use Rattle.session_shell.proofs.hub.Hub.empty_session.Goals as goal
 
 pub commands-init : goal.commands-init

@@ -1,9 +1,6 @@
-use Rattle.std.proofs.Common.{◌≡◌, ◌+◌, ◌<◌, ◌≤◌, arith, length, ap, sym, subst, ◌∙◌}
+use Rattle.std.proofs.Common.{◌≡◌, arith, length, ap, ◌∙◌}
 use Rattle.command_set.specs.declared.Script.{Script}
 use Rattle.session_shell.specs.Hubs.{HubState}
-use Rattle.session_shell.specs.Turns.{places_in}
-use Rattle.session_shell.specs.Follows.{IsOver}
-use Rattle.session_shell.specs.contracts.hub.Hub.{the_view}
 use Rattle.session_shell.proofs.Finishing.{ended_all, ended_idle, ended_more, ended_none}
 use Rattle.session_shell.proofs.hub.Hub.end_all.Goals as goal
 

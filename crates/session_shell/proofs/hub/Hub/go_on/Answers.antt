@@ -1,9 +1,8 @@
 -- A command goes on, is over, or wants memory.
-use Rattle.std.proofs.Common.{◌-◌, ◌∙◌, slice_set, arith, refl, rules, sym, ap}
+use Rattle.std.proofs.Common.{◌-◌, ◌∙◌, slice_set, arith, refl, rules, ap}
 use Rattle.std.proofs.lemmas.List.{length-map}
 use Rattle.command_set.specs.declared.journal.Told.{Told}
 use Rattle.command_set.specs.Journals.{run_of}
-use Rattle.toast_core.specs.Events.{left}
 use Rattle.session_shell.specs.Hubs.{replies_of}
 use Rattle.session_shell.specs.declared.hub.Progress.{Progress}
 use Rattle.session_shell.specs.contracts.hub.Hub.{the_view}

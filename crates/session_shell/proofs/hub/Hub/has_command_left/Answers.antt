@@ -1,4 +1,4 @@
-use Rattle.std.proofs.Common.{◌-◌, get_or, arith, sym, subst, ap, ◌∙◌}
+use Rattle.std.proofs.Common.{◌-◌, get_or, ap, ◌∙◌}
 use Rattle.session_shell.specs.contracts.hub.Hub.{the_view}
 use Rattle.session_shell.proofs.Finishing.{left_by}
 use Rattle.session_shell.proofs.hub.Hub.has_command_left.Goals as goal

@@ -1,4 +1,4 @@
-use Rattle.std.proofs.Common.{arith, subst, sym, ap, ◌∙◌}
+use Rattle.std.proofs.Common.{arith, ◌∙◌}
 use Rattle.session_shell.proofs.News.{new_is, new_places}
 use Rattle.session_shell.proofs.hub.Hub.new.Goals as goal
 

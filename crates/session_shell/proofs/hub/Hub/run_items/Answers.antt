@@ -1,4 +1,4 @@
-use Rattle.std.proofs.Common.{◌≡◌, Some, arith, slice_get, subst, sym, ap, ◌∙◌}
+use Rattle.std.proofs.Common.{◌≡◌, Some, slice_get, subst}
 use Rattle.command_set.specs.declared.Script.{Script}
 use Rattle.session_shell.specs.Follows.{passage_at}
 use Rattle.session_shell.proofs.Turning.{runs_more, runs_none}

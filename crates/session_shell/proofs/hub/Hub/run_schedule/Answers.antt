@@ -1,7 +1,6 @@
-use Rattle.std.proofs.Common.{◌≡◌, ◌<◌, [], arith, length, subst, sym, ap, ◌∙◌}
+use Rattle.std.proofs.Common.{[], arith, length, subst, ap, ◌∙◌}
 use Rattle.std.proofs.lemmas.List.{take_all}
 use Rattle.command_set.specs.declared.Script.{Script}
-use Rattle.command_set.specs.declared.Passage.{Passage}
 use Rattle.session_shell.specs.Hubs.{HubState}
 use Rattle.session_shell.specs.Follows.{RunsItems, items_in, items_of, passage_at}
 use Rattle.session_shell.proofs.Turning.{runs_none, runs_passage}

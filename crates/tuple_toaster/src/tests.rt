@@ -123,6 +123,12 @@ fn the_first_of_the_largest_goes_out(rt: HostRuntime) -> Result<(), Fail> {
             &[2, 1]
         )?
     );
+    Ok(())
+}
+
+#[test]
+fn small_plain_and_stored_columns_stay(rt: HostRuntime) -> Result<(), Fail> {
+    let alloc = rt.alloc();
     assert!(rt; plans(alloc, &BOTH, &[Column::Out, Column::Inline(1997)], &[2])?);
     assert!(rt;
         plans(

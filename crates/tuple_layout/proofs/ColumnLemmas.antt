@@ -1,5 +1,5 @@
 -- Columns that are read one after the other.
-use Rattle.std.proofs.Common.{◌≡◌, ℕ, ◌+◌, ◌<◌, ◌≤◌, Bool, true, false, List, [], ◌∷◌, ◌++◌, length, take, drop, get_or, Option, refl, sym, ap, subst, ◌∙◌, append_assoc, arith, inl, inr}
+use Rattle.std.proofs.Common.{◌≡◌, ℕ, ◌+◌, ◌-◌, ◌<◌, ◌≤◌, Bool, true, false, List, [], ◌∷◌, ◌++◌, length, take, drop, get_or, Option, refl, sym, ap, subst, ◌∙◌, append_assoc, arith, inl, inr}
 use Rattle.std.specs.Prelude.{not}
 use Rattle.std.specs.Str.{bytes_eq}
 use Rattle.std.proofs.lemmas.Slice.Eq.{bytes_eq-Decides}
@@ -210,3 +210,10 @@ from_not false e = absurd (cc)
 
 pub same_bytes : (xs ys : List ℕ) (r : Bool) → r ≡ not (bytes_eq xs ys) → r ≡ false → xs ≡ ys
 same_bytes xs ys r e f = (bytes_eq-Decides xs ys).0 (from_not (bytes_eq xs ys) (sym f ∙ e))
+
+-- how much is left behind the columns
+pub past_end : (bytes body : List ℕ) (start end : ℕ) → body ≡ drop start bytes → 0 < length body - end → end < length (drop start bytes)
+past_end bytes body start end is some = omega (arith, ap length is, some)
+
+pub at_end : (bytes body : List ℕ) (start end : ℕ) → body ≡ drop start bytes → length body - end ≤ 0 → length (drop start bytes) ≤ end
+at_end bytes body start end is none = omega (arith, ap length is, none)

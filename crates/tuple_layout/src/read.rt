@@ -99,26 +99,26 @@ fn read_column(
     }
 }
 
-/// Reads the cells of all columns behind the key, and where they end in the data.
+/// Reads the cells of all columns from the data, and where they end in them.
 fn read_columns(
     alloc: Global,
     schema: &Schema,
     bitmap: Option<u16>,
-    data: &[u8],
+    body: &[u8],
 ) -> Result<(CellList, usize), TupleFault>
-    requires { 8 ≤ length data.now }
-    ensures found { IfOk result (λ x. HoldsFirst schema.now bitmap data.now x.0 (drop x.1 data.now)) }
+    requires { 8 ≤ length body.now }
+    ensures found { IfOk result (λ x. HoldsFirst schema.now bitmap body.now x.0 (drop x.1 body.now)) }
     ensures all { IfOk result (λ x. length x.0 ≡ length schema.now) }
     ensures few { IfOk result (λ x. length x.0 ≤ 8) }
-    ensures end { IfOk result (λ x. (x.1 ≡ end_of schema.now x.0) × (x.1 ≤ length data.now)) }
-    ensures fault { IfErr result (IsColumnsFault schema.now bitmap data.now) }
+    ensures end { IfOk result (λ x. (x.1 ≡ end_of schema.now x.0) × (x.1 ≤ length body.now)) }
+    ensures fault { IfErr result (IsColumnsFault schema.now bitmap body.now) }
 {
     let mut cells = CellList::new(alloc);
     let mut at = KEY_SIZE;
     for storage in schema.storages() {
         let column = cells.len() as u16 + 1;
         let there = is_present(bitmap, column);
-        let (_, rest) = data.split_at(at);
+        let (_, rest) = body.split_at(at);
         let (cell, size) = read_column(alloc, column, *storage, there, rest, at)?;
         cells.push(cell)?;
         at += size;
@@ -127,12 +127,12 @@ fn read_columns(
 }
 
 /// The key at the front of the data, in two's complement with the low byte first.
-fn read_key(data: &[u8]) -> i64
-    requires { 8 ≤ length data.now }
-    ensures { take 8 data.now ≡ key_bytes result }
+fn read_key(body: &[u8]) -> i64
+    requires { 8 ≤ length body.now }
+    ensures { take 8 body.now ≡ key_bytes result }
 {
     let bits = u64::from_le_bytes([
-        data[0], data[1], data[2], data[3], data[4], data[5], data[6], data[7],
+        body[0], body[1], body[2], body[3], body[4], body[5], body[6], body[7],
     ]);
     bits.cast_signed()
 }
@@ -144,16 +144,17 @@ fn read_parts(alloc: Global, schema: &Schema, bytes: &[u8]) -> Result<Stored, Tu
     ensures few { length schema.now ≤ 8 }
 {
     let start = read_front(schema, bytes)?;
-    let (front, data) = bytes.split_at(start);
-    let (cells, end) = read_columns(alloc, schema, read_bitmap(bytes), data)?;
-    if end < data.len() {
+    let (front, body) = bytes.split_at(start);
+    let (cells, end) = read_columns(alloc, schema, read_bitmap(bytes), body)?;
+    let rest = body.len() - end;
+    if rest > 0 {
         return Err(TupleFault::Rest { at: start + end });
     }
     let (header, size) = header_of(cells.as_slice());
     if front != &header[..size] {
         return Err(TupleFault::BadHeader);
     }
-    let key = read_key(data);
+    let key = read_key(body);
     Ok(Stored { key, cells })
 }
 

@@ -12,7 +12,7 @@ loop-storage-init c =
       count = refl;
       place = sym (end_none c.args.schema.now);
       within = c.requires;
-      holds = holds_none c.args.schema.now c.args.bitmap c.args.data.now;
+      holds = holds_none c.args.schema.now c.args.bitmap c.args.body.now;
     })
 
 pub returns-in_err-cell-clause-fault : goal.returns-in_err-cell-clause-fault
@@ -24,13 +24,13 @@ returns-in_err-cell-clause-fault c =
     let storage = storage_is schema c.storages-storage-items.result.now l.storage-index (length l.cells) c.storages-storage-items.ensures.all l.invariant.count c.loop-storage-test.true in
     let column : c.len.result + 1 ≡ length l.cells + 1 = ap (λ (n : ℕ). n + 1) c.len.ensures in
     let fault = rw c.split_at.ensures.back at c.in_err-cell.ensures.fault in
-    rw (p.1, p.2) (stops_in schema c.args.bitmap c.args.data.now l.cells _ l.at (c.len.result + 1) c.is_present-there.result c.in_err-cell.field-0.0 more storage l.invariant.place column c.is_present-there.ensures l.invariant.holds fault)
+    rw (p.1, p.2) (stops_in schema c.args.bitmap c.args.body.now l.cells _ l.at (c.len.result + 1) c.is_present-there.result c.in_err-cell.field-0.0 more storage l.invariant.place column c.is_present-there.ensures l.invariant.holds fault)
 
 pub loop-storage-preserved : goal.loop-storage-preserved
 loop-storage-preserved c =
     let l = c.loop-storage in
     let schema = c.args.schema.now in
-    let bytes = c.args.data.now in
+    let bytes = c.args.body.now in
     let size = c.in_ok-cell.size in
     let more : length l.cells < length schema = omega (arith, ap length c.storages-storage-items.ensures.all, c.loop-storage-test.true, l.invariant.count) in
     let storage = storage_is schema c.storages-storage-items.result.now l.storage-index (length l.cells) c.storages-storage-items.ensures.all l.invariant.count c.loop-storage-test.true in

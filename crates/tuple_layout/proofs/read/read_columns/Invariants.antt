@@ -7,6 +7,6 @@ abbrev pub invariant-loop-storage : goal.invariant-loop-storage
 invariant-loop-storage l = record {
   count : length l.cells ≡ l.storage-index;
   place : l.at ≡ end_of l.fn.schema l.cells;
-  within : l.at ≤ length l.data;
-  holds : HoldsFirst l.fn.schema l.bitmap l.data l.cells (drop l.at l.data);
+  within : l.at ≤ length l.body;
+  holds : HoldsFirst l.fn.schema l.bitmap l.body l.cells (drop l.at l.body);
 }

@@ -1,0 +1,5 @@
+pub mod Trees
+pub mod Columns
+pub mod Moves
+pub mod Widths
+pub mod Streams

@@ -1,0 +1,4 @@
+pub mod Ordered
+pub mod Walks
+pub mod Least
+pub mod AllOut

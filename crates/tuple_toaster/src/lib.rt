@@ -1,0 +1,16 @@
+//! Which of a row's values go out of line so that its tuple fits on a page.
+//!
+//! Source: the PostgreSQL 17 documentation, "Database Physical Storage", "TOAST".
+#![tactic(auto)]
+
+mod choice;
+mod columns;
+mod largest;
+mod law;
+
+pub use choice::{RowTooBig, all_out_size, plan};
+pub use columns::OutColumns;
+pub use law::{least_size, one_all_out_size};
+
+#[cfg(test)]
+mod tests;

@@ -1,0 +1,23 @@
+//! Why no id is drawn.
+
+ghost use Rattle.std.specs.Prelude.{◌≡◌};
+ghost use Rattle.value_ids.specs.declared.fault.DrawFault.TheVariants.{Memory};
+
+use std::alloc::AllocError;
+
+/// Why no id is drawn.
+#[derive(Clone, Copy, Debug, PartialEq, Eq)]
+pub enum DrawFault {
+    /// Each of so many ids, all there are, is in use.
+    NoValueId { in_use: u64 },
+    /// There is no memory.
+    Memory,
+}
+
+impl From<AllocError> for DrawFault {
+    ghost from_gives = { λ _ fault. fault ≡ Memory };
+
+    fn from(_: AllocError) -> Self {
+        DrawFault::Memory
+    }
+}

@@ -220,11 +220,11 @@ fn wanted(storages: [Storage; 2], columns: [Column; 2]) -> &'static [u16] {
 
 /// Whether what is planned for a row of two columns is what is wanted.
 fn agrees(alloc: Global, storages: [Storage; 2], columns: [Column; 2]) -> Result<bool, Fail> {
-    let (plan, _) = planned(alloc, &storages, &columns, 2032)?;
+    let (plan, all_out) = planned(alloc, &storages, &columns, 2032)?;
     let want = wanted(storages, columns);
     match plan {
-        Ok(out) => Ok(out.as_slice() == want),
-        Err(fault) => Ok(fault.size > 8160),
+        Ok(out) => Ok(all_out <= 8160 && out.as_slice() == want),
+        Err(fault) => Ok(all_out > 8160 && fault.size == all_out),
     }
 }
 
@@ -265,6 +265,19 @@ fn all_pairs_at_the_edges(rt: HostRuntime) -> Result<(), Fail> {
             assert!(rt;
                 agree_with_each_second(rt.alloc(), storages, first)?,
                 "at {first:?}"
+            );
+        }
+    }
+    Ok(())
+}
+
+#[test]
+fn all_lengths_around_the_target(rt: HostRuntime) -> Result<(), Fail> {
+    for len in 2000..2041 {
+        for storages in [BOTH, MIXED, [Storage::Plain, Storage::External]] {
+            assert!(rt;
+                agree_with_each_second(rt.alloc(), storages, Column::Inline(len))?,
+                "at {len}"
             );
         }
     }

@@ -1,3 +1,5 @@
+ghost use Rattle.std.specs.Prelude.{◌≤◌};
+
 use command_set::JournalEntry;
 use plain_journal::plain_lines;
 use plain_program::PlainFault;

@@ -15,7 +15,7 @@ use Rattle.chunk_index.specs.declared.entry.Entry.{Entry}
 use Rattle.chunk_index.specs.Entries.{entry_cmp, is_after, is_wanted, wanted_of}
 use Rattle.chunk_index.specs.Leaves.{Leaf, is_from, is_below, next_bound, in_leaf, leaf_from, leaf_of}
 use Rattle.chunk_index.specs.Indexes.{Index, batch_of, after_batch}
-use Rattle.chunk_index.proofs.Members.{none_in_nil, filter_holds, held_by_filter}
+use Rattle.list_facts.proofs.Members.{none_in_nil, filter_holds, held_by_filter}
 use Rattle.chunk_index.proofs.Ordered.{entry_total}
 use Rattle.chunk_index.proofs.Runs.{skip_run, front_run, while_run, filter-filter}
 use Rattle.chunk_index.proofs.Searches.{sorted_pairs}

@@ -7,7 +7,7 @@ use Rattle.std.specs.declared.cmp.Ordering.TheVariants.{Less, Equal, Greater}
 use Rattle.std.specs.Ordering.{is_lt, ordering_reverse}
 use Rattle.std.specs.Cmp.{IsTotalOrder}
 use Rattle.chunk_index.specs.Orders.{inserted}
-use Rattle.chunk_index.proofs.Members.{none_in_nil, cases_in, first_in, later_in}
+use Rattle.list_facts.proofs.Members.{none_in_nil, cases_in, first_in, later_in}
 
 -- what a list holds beside one more element
 pub in_inserted : {X : Type 0} (cmp : X → X → Ordering) (x y : X) (xs : List X) → Contains xs y → Contains (inserted cmp x xs) y

@@ -7,7 +7,7 @@ use Rattle.chunk_index.specs.declared.entry.Entry.{Entry}
 use Rattle.chunk_index.specs.Entries.{entry_cmp, of_id, with_entry}
 use Rattle.chunk_index.proofs.Inserted.{in_inserted, new_in, inserted_holds, inserted_last, filter-inserted_no, filter-inserted_yes}
 use Rattle.chunk_index.proofs.Ordered.{entry_total}
-use Rattle.chunk_index.proofs.Members.{filter_holds, held_by_filter}
+use Rattle.list_facts.proofs.Members.{filter_holds, held_by_filter}
 
 -- each entry stays, the new one is there, and there is no other
 pub entry_stays : (entries : List Entry) (e f : Entry) → Contains entries f → Contains (with_entry entries e) f

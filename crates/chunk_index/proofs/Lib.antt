@@ -1,4 +1,3 @@
-pub mod Members
 pub mod Inserted
 mod Runs
 pub mod Ordered

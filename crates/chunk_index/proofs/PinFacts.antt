@@ -16,7 +16,7 @@ use Rattle.chunk_index.specs.Entries.{entry_cmp}
 use Rattle.chunk_index.specs.Leaves.{Leaf, same_leaf, leaf_of}
 use Rattle.chunk_index.specs.Pinned.{pin_cmp, pin_of, with_pin, without_pin, holder_of}
 use Rattle.chunk_index.specs.Indexes.{Index, after_batch}
-use Rattle.chunk_index.proofs.Members.{none_in_nil, cases_in, first_in, later_in}
+use Rattle.list_facts.proofs.Members.{none_in_nil, cases_in, first_in, later_in}
 use Rattle.chunk_index.proofs.Ordered.{entry_equal, entry_total}
 
 -- two bounds name one leaf exactly where they are the same

@@ -15,7 +15,7 @@ use Rattle.chunk_index.specs.Entries.{entry_cmp, with_entry}
 use Rattle.chunk_index.specs.Leaves.{Leaf}
 use Rattle.chunk_index.specs.Pinned.{pin_cmp, pin_of, with_pin, without_pin}
 use Rattle.chunk_index.specs.Indexes.{IsIndex, IsLeaf}
-use Rattle.chunk_index.proofs.Members.{none_in_nil, cases_in, filter_holds}
+use Rattle.list_facts.proofs.Members.{none_in_nil, cases_in, filter_holds}
 use Rattle.chunk_index.proofs.Inserted.{IsStrictlySortedBy-inserted, inserted_at, inserted_holds}
 use Rattle.chunk_index.proofs.Ordered.{entry_total, entry_equal}
 

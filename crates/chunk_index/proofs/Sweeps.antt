@@ -12,7 +12,7 @@ use Rattle.std.specs.Ordering.{is_lt, ordering_reverse}
 use Rattle.chunk_index.proofs.Ordered.{entry_total, entry_equal}
 use Rattle.chunk_index.proofs.Batches.{from_own_leaf}
 use Rattle.chunk_index.proofs.Inserts.{entry_was}
-use Rattle.chunk_index.proofs.Members.{filter_holds, held_by_filter, first_in, later_in}
+use Rattle.list_facts.proofs.Members.{filter_holds, held_by_filter, first_in, later_in}
 
 -- an entry that is left was there and was not to go
 pub left_was : (bounds : List Entry) (leaf : Leaf) (dead : List Tid) (entries : List Entry) (e : Entry) → Contains (unswept bounds leaf dead entries) e → Contains entries e × (is_swept bounds leaf dead e ≡ false)

@@ -1,6 +1,4 @@
 mod Steps
 mod Fits
 mod Kept
-mod Members
-pub mod Gathered
 pub mod Events

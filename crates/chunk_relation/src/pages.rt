@@ -4,7 +4,7 @@ ghost use Rattle.std.specs.Prelude.{◌≡◌, ℕ, ◌≤◌, ◌<◌, ◌++◌
 ghost use Rattle.slot_page.specs.Slots.{fits, slot_at, with_put};
 ghost use Rattle.slot_page.specs.Pages.{page_at, put_tid, with_put_on};
 ghost use Rattle.chunk_relation.specs.Chunks.{IsLineAssigned, is_newly_dead, pruned};
-ghost use Rattle.chunk_relation.specs.DeadSlots.{dead_tids, is_dead_line};
+ghost use Rattle.slot_page.specs.DeadSlots.{dead_tids, is_dead_line};
 
 use crate::TidList;
 use crate::chunk::Chunk;

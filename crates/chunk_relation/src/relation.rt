@@ -6,7 +6,7 @@ ghost use Rattle.slot_page.specs.Slots.{IsDead, IsNormal};
 ghost use Rattle.slot_page.specs.Pages.{page_at, put_tid, slot_of, with_put_on, written};
 ghost use Rattle.slot_page.specs.declared.line.LinePointer.{LinePointer};
 ghost use Rattle.chunk_relation.specs.Chunks.{chunk_shown, chunk_size, is_newly_dead, most_bytes, new_chunk};
-ghost use Rattle.chunk_relation.specs.DeadSlots.{dead_tids};
+ghost use Rattle.slot_page.specs.DeadSlots.{dead_tids};
 ghost use Rattle.chunk_relation.specs.Relations.{AreAssigned, chunk_of, with_ended, with_pruned};
 
 use crate::TidList;

@@ -5,7 +5,7 @@ use Rattle.tuple_layout.specs.declared.Place.{Place}
 use Rattle.tuple_layout.specs.Places.{Row, Rows, place_total, same_place, get-put, get-gone}
 use Rattle.stream_wire.specs.declared.message.Sent.{Sent}
 use Rattle.replica_map.specs.Applies.{row_with, moved}
-use Rattle.replica_map.proofs.Trees.{place_exact, same_place_is}
+use Rattle.tuple_layout.proofs.PlaceLemmas.{place_exact, same_place_is}
 
 -- nothing is where no row is
 pub nothing_there : (there : Option Row) → is_some there ≡ false → there ≡ None

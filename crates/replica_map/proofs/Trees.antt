@@ -12,10 +12,9 @@ use Rattle.std.specs.Map.{lookup, keys_of}
 use Rattle.std.specs.BTreeMap.{is_at}
 use Rattle.std.specs.List.Sorted.{IsStrictlySortedBy}
 use Rattle.std.proofs.lemmas.Map.Keys.{sorted_head, sorted_tail}
-use Rattle.std.proofs.lemmas.Map.Views.{tells_apart}
-use Rattle.std.proofs.lemmas.Map.Lookups.{exact_pairs, exact_unsigned, exact_signed}
 use Rattle.tuple_layout.specs.declared.Place.{Place}
 use Rattle.tuple_layout.specs.Places.{Row, place_cmp, place_total, same_place}
+use Rattle.tuple_layout.proofs.PlaceLemmas.{place_exact}
 use Rattle.replica_map.specs.States.{rows_of}
 
 abbrev pub Entries : Type 0
@@ -24,16 +23,6 @@ Entries = List (Place × Row)
 -- the row at a place
 abbrev pub row_in : Entries → Place → Option Row
 row_in es q = lookup (is_at (place_cmp q)) es
-
--- only one place ties with a place
-pub place_exact : finite.IsAntisymmetric place_cmp
-place_exact p q e =
-    let made : ℕ × ℤ → Place = λ x. record { table = x.0; key = x.1 } in
-    ap made (exact_pairs nat_cmp int_cmp exact_unsigned exact_signed (p.table, p.key) (q.table, q.key) e)
-
--- two places that a test takes for one are one
-pub same_place_is : (p q : Place) → same_place p q ≡ true → p ≡ q
-same_place_is p q e = tells_apart place_exact p q e
 
 find_lookup : (es : Entries) (q : Place) → finite.find place_cmp q es ≡ row_in es q
 find_lookup [] q = refl

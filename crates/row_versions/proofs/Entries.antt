@@ -13,7 +13,7 @@ use Rattle.slot_page.specs.Tids.{tid_cmp}
 use Rattle.slot_page.proofs.Tids.{tid_same, tid_total}
 use Rattle.row_versions.specs.declared.keys.KeyEntry.{KeyEntry}
 use Rattle.row_versions.specs.Keys.{entry_cmp, names_one_of}
-use Rattle.row_versions.proofs.Members.{none_in_nil, cases_in, kept_by}
+use Rattle.list_facts.proofs.Members.{none_in_nil, cases_in, filter_holds}
 
 -- the order by key and tid is total
 pub entry_total : IsTotalOrder entry_cmp
@@ -93,7 +93,7 @@ names_if (t ∷ ts) e held = elim (cases_in t ts e.tid held) [
 
 -- so no entry that is left names a tid whose entries were taken away
 pub unnamed_after : (tids : List Tid) (entries : List KeyEntry) (t : Tid) → Contains tids t → (e : KeyEntry) → Contains (filter (λ f. not (names_one_of tids f)) entries) e → e.tid ≢ t
-unnamed_after tids entries t listed e held same = differ (sym (kept_by (λ f. not (names_one_of tids f)) entries e held).1 ∙ ap not (names_if tids e (rw same listed)))
+unnamed_after tids entries t listed e held same = differ (sym (filter_holds (λ f. not (names_one_of tids f)) entries e held).1 ∙ ap not (names_if tids e (rw same listed)))
   where
     differ : true ≡ false → ⊥
     differ e = cc

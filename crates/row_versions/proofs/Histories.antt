@@ -21,7 +21,7 @@ use Rattle.row_versions.specs.declared.version.Version.{Version}
 use Rattle.row_versions.specs.declared.keys.KeyEntry.{KeyEntry}
 use Rattle.row_versions.specs.Keys.{entry, entry_cmp, has_key}
 use Rattle.row_versions.specs.Relations.{IsKeyMap, Names, Relation, is_seen, is_seen_at, version_in, versions_of}
-use Rattle.row_versions.proofs.Members.{none_in_nil, cases_in, first_in, later_in, kept_by, kept_if, found_in, none_passes}
+use Rattle.list_facts.proofs.Members.{none_in_nil, cases_in, first_in, later_in, filter_holds, held_by_filter, found_in, none_passes}
 use Rattle.row_versions.proofs.Sorted.{each_of, sorted_cons, sorted_nil}
 
 -- what a list of entries maps to
@@ -60,9 +60,9 @@ names_version e Unused named some = absurd (cc)
 -- each tid of the versions of a key has a version of it
 pub of_versions : (rel : Relation) (key : ℤ) (t : Tid) → IsKeyMap rel.pages rel.entries → Contains (versions_of rel key) t → (version : Version) × (version_in rel t ≡ Some version) × (version.key ≡ key)
 of_versions rel key t keys held =
-    let kept = kept_by (λ u. is_some (version_in rel u)) (map (λ e. e.tid) (filter (has_key key) rel.entries)) t held in
+    let kept = filter_holds (λ u. is_some (version_in rel u)) (map (λ e. e.tid) (filter (has_key key) rel.entries)) t held in
     let from = mapped_from (filter (has_key key) rel.entries) t kept.0 in
-    let own = kept_by (has_key key) rel.entries from.0 from.1 in
+    let own = filter_holds (has_key key) rel.entries from.0 from.1 in
     let named : Names from.0 (slot_of rel.pages t) = subst (λ u. Names from.0 (slot_of rel.pages u)) from.2 (keys.named from.0 own.0) in
     let found = names_version from.0 (slot_of rel.pages t) named kept.1 in
     (found.0, found.1, found.2 ∙ key_is key from.0 own.1)
@@ -71,8 +71,8 @@ of_versions rel key t keys held =
 pub among_versions : (rel : Relation) (key : ℤ) (t : Tid) (version : Version) → IsKeyMap rel.pages rel.entries → version_in rel t ≡ Some version → version.key ≡ key → Contains (versions_of rel key) t
 among_versions rel key t version keys is of_key =
     let held : Contains rel.entries (entry key t) = subst (λ k. Contains rel.entries (entry k t)) of_key (keys.complete t version is) in
-    let own = kept_if (has_key key) rel.entries (entry key t) held (own_key key t) in
-    kept_if (λ u. is_some (version_in rel u)) (map (λ e. e.tid) (filter (has_key key) rel.entries)) t (mapped_in (filter (has_key key) rel.entries) (entry key t) own) (ap is_some is)
+    let own = held_by_filter (has_key key) rel.entries (entry key t) held (own_key key t) in
+    held_by_filter (λ u. is_some (version_in rel u)) (map (λ e. e.tid) (filter (has_key key) rel.entries)) t (mapped_in (filter (has_key key) rel.entries) (entry key t) own) (ap is_some is)
 
 -- of two entries of one key the tids are in the order of the entries
 second_part : (r s : Ordering) → r ≡ Equal → ordering_then r s ≡ Less → s ≡ Less
@@ -93,7 +93,7 @@ tids_in_order key (e ∷ es) sorted same = sorted_cons tid_cmp e.tid (map (λ f.
 -- the versions of a key stand in the order of their tids
 pub versions_sorted : (rel : Relation) (key : ℤ) → IsKeyMap rel.pages rel.entries → IsStrictlySortedBy tid_cmp (versions_of rel key)
 versions_sorted rel key keys = IsStrictlySortedBy-filter tid_cmp (λ t. is_some (version_in rel t)) (map (λ e. e.tid) (filter (has_key key) rel.entries))
-    (tids_in_order key (filter (has_key key) rel.entries) (IsStrictlySortedBy-filter entry_cmp (has_key key) rel.entries keys.sorted) (λ e held. key_is key e (kept_by (has_key key) rel.entries e held).1))
+    (tids_in_order key (filter (has_key key) rel.entries) (IsStrictlySortedBy-filter entry_cmp (has_key key) rel.entries keys.sorted) (λ e held. key_is key e (filter_holds (has_key key) rel.entries e held).1))
 
 -- what a walk over the entries of a key finds is seen, and a version of the key
 has_version : (key : ℤ) (item : Option Version) (version : Version) → item ≡ Some version → version.key ≡ key → option_map_or (λ v. is_eq (int_cmp v.key key)) item false ≡ true
@@ -103,7 +103,7 @@ pub seen_if_found : (xacts : Xacts) (snaps : Snaps) (id : ℕ) (own : Option ℕ
 seen_if_found xacts snaps id own rel key t keys found =
     let passes = found_in (is_seen_at xacts snaps id own rel.pages) (map (λ e. e.tid) (filter (has_key key) rel.entries)) t found in
     let from = mapped_from (filter (has_key key) rel.entries) t passes.0 in
-    let own_entry = kept_by (has_key key) rel.entries from.0 from.1 in
+    let own_entry = filter_holds (has_key key) rel.entries from.0 from.1 in
     let named : Names from.0 (slot_of rel.pages t) = subst (λ u. Names from.0 (slot_of rel.pages u)) from.2 (keys.named from.0 own_entry.0) in
     let version = names_version from.0 (slot_of rel.pages t) named (seen_there (item_in rel.pages t) passes.1) in
     rw (has_version key (item_in rel.pages t) version.0 version.1 (version.2 ∙ key_is key from.0 own_entry.1), passes.1) refl
@@ -120,7 +120,7 @@ unseen_if_none xacts snaps id own rel key t keys found = by_item (version_in rel
     by_key version is true same =
         let of_key : version.key ≡ key = exact_signed version.key key (equal_is (int_cmp version.key key) same) in
         let held : Contains rel.entries (entry key t) = subst (λ k. Contains rel.entries (entry k t)) of_key (keys.complete t version is) in
-        let listed = mapped_in (filter (has_key key) rel.entries) (entry key t) (kept_if (has_key key) rel.entries (entry key t) held (own_key key t)) in
+        let listed = mapped_in (filter (has_key key) rel.entries) (entry key t) (held_by_filter (has_key key) rel.entries (entry key t) held (own_key key t)) in
         let unseen = none_passes (is_seen_at xacts snaps id own rel.pages) (map (λ e. e.tid) (filter (has_key key) rel.entries)) t found listed in
         rw (has_version key (item_in rel.pages t) version is of_key) unseen
     by_key version is false other = rw (is, other) refl

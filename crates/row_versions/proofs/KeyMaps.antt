@@ -18,7 +18,7 @@ use Rattle.row_versions.specs.Keys.{entry, entry_cmp, names_one_of, with_entry}
 use Rattle.row_versions.specs.Relations.{Pages, IsKeyMap, Names, pages_ended, pages_pruned}
 use Rattle.row_versions.proofs.Events.{slot_of-pruned}
 use Rattle.row_versions.proofs.Entries.{entry_total, entry_exact, named_among}
-use Rattle.row_versions.proofs.Members.{none_in_nil, kept_by, kept_if}
+use Rattle.list_facts.proofs.Members.{none_in_nil, filter_holds, held_by_filter}
 use Rattle.row_versions.proofs.Sorted.{sorted_with, held_with, new_held, still_held, sorted_nil}
 
 -- no version and no entry
@@ -101,8 +101,8 @@ dead_empty Unused version dead is = dead
 pub keys_fewer : (pages : Pages) (entries : List KeyEntry) (tids : List Tid) → IsKeyMap pages entries → ((tid : Tid) → Contains tids tid → IsDead (slot_of pages tid)) → IsKeyMap pages (filter (λ e. not (names_one_of tids e)) entries)
 keys_fewer pages entries tids keys dead = record {
   sorted = IsStrictlySortedBy-filter entry_cmp (λ e. not (names_one_of tids e)) entries keys.sorted;
-  named = λ e held. keys.named e (kept_by (λ f. not (names_one_of tids f)) entries e held).0;
-  complete = λ t version is. kept_if (λ f. not (names_one_of tids f)) entries (entry version.key t) (keys.complete t version is) (unnamed t version is (names_one_of tids (entry version.key t)) refl);
+  named = λ e held. keys.named e (filter_holds (λ f. not (names_one_of tids f)) entries e held).0;
+  complete = λ t version is. held_by_filter (λ f. not (names_one_of tids f)) entries (entry version.key t) (keys.complete t version is) (unnamed t version is (names_one_of tids (entry version.key t)) refl);
 }
   where
     unnamed : (t : Tid) (version : Version) → item_in pages t ≡ Some version → (b : Bool) → names_one_of tids (entry version.key t) ≡ b → not (names_one_of tids (entry version.key t)) ≡ true

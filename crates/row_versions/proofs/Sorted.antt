@@ -9,7 +9,7 @@ use Rattle.std.specs.declared.cmp.Ordering.TheVariants.{Less, Equal, Greater}
 use Rattle.std.proofs.lemmas.List.Elements.{Contains-append_left, Contains-append_right, Contains-append_cases}
 use Rattle.std.proofs.lemmas.List.Kept.{IsStrictlySortedBy-filter}
 use Rattle.std.proofs.lemmas.Map.Keys.{sorted_head, sorted_tail}
-use Rattle.row_versions.proofs.Members.{none_in_nil, cases_in, first_in, later_in, kept_by, kept_if}
+use Rattle.list_facts.proofs.Members.{none_in_nil, cases_in, first_in, later_in, filter_holds, held_by_filter}
 
 -- what holds of all holds of each
 pub each_of : {X : Type 0} (P : X → Type 0) (xs : List X) (x : X) → AllByRecursion P xs → Contains xs x → P x
@@ -64,18 +64,18 @@ fails false e = refl
 pub sorted_with : {K : Type 0} {c : K → K → Ordering} (o : IsTotalOrder c) → ((x y : K) → c x y ≡ Equal → x ≡ y) → (ks : List K) (e : K) → IsStrictlySortedBy c ks → (Contains ks e → ⊥) → IsStrictlySortedBy c (filter (λ k. is_lt (c k e)) ks ++ e ∷ filter (λ k. not (is_lt (c k e))) ks)
 sorted_with {c = c} o exact ks e sorted new =
     sorted_join o (filter (λ k. is_lt (c k e)) ks) (filter (λ k. not (is_lt (c k e))) ks) e (IsStrictlySortedBy-filter c (λ k. is_lt (c k e)) ks sorted) (IsStrictlySortedBy-filter c (λ k. not (is_lt (c k e))) ks sorted)
-    (λ x held. less_is (c x e) (kept_by (λ k. is_lt (c k e)) ks x held).1)
+    (λ x held. less_is (c x e) (filter_holds (λ k. is_lt (c k e)) ks x held).1)
     (λ y held.
-    let kept = kept_by (λ k. not (is_lt (c k e))) ks y held in
+    let kept = filter_holds (λ k. not (is_lt (c k e))) ks y held in
     o.antisymm e y ∙ greater_is (c y e) (fails (is_lt (c y e)) kept.1) (λ tie. new (rw (← exact y e tie) kept.0)))
 
 -- what a list with an element more holds
 pub held_with : {X : Type 0} (p : X → Bool) (xs : List X) (e x : X) → Contains (filter p xs ++ e ∷ filter (λ k. not (p k)) xs) x → Contains xs x ⊎ (e ≡ x)
 held_with p xs e x held = elim (Contains-append_cases (filter p xs) (e ∷ filter (λ k. not (p k)) xs) x held) [
-  | inl front ↦ inl (kept_by p xs x front).0
+  | inl front ↦ inl (filter_holds p xs x front).0
   | inr rest ↦ elim (cases_in e (filter (λ k. not (p k)) xs) x rest) [
     | inl is ↦ inr is
-    | inr behind ↦ inl (kept_by (λ k. not (p k)) xs x behind).0
+    | inr behind ↦ inl (filter_holds (λ k. not (p k)) xs x behind).0
   ]
 ]
 
@@ -86,5 +86,5 @@ pub still_held : {X : Type 0} (p : X → Bool) (xs : List X) (e x : X) → Conta
 still_held p xs e x held = by_test (p x) refl
   where
     by_test : (b : Bool) → p x ≡ b → Contains (filter p xs ++ e ∷ filter (λ k. not (p k)) xs) x
-    by_test true passes = Contains-append_left (filter p xs) (e ∷ filter (λ k. not (p k)) xs) x (kept_if p xs x held passes)
-    by_test false fails' = Contains-append_right (filter p xs) (e ∷ filter (λ k. not (p k)) xs) x (later_in e (filter (λ k. not (p k)) xs) x (kept_if (λ k. not (p k)) xs x held (ap not fails')))
+    by_test true passes = Contains-append_left (filter p xs) (e ∷ filter (λ k. not (p k)) xs) x (held_by_filter p xs x held passes)
+    by_test false fails' = Contains-append_right (filter p xs) (e ∷ filter (λ k. not (p k)) xs) x (later_in e (filter (λ k. not (p k)) xs) x (held_by_filter (λ k. not (p k)) xs x held (ap not fails')))

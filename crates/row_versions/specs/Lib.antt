@@ -1,4 +1,3 @@
 pub mod Versions
-pub mod DeadSlots
 pub mod Keys
 pub mod Relations

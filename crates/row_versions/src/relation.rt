@@ -7,7 +7,7 @@ ghost use Rattle.slot_page.specs.Slots.{IsDead, IsNormal};
 ghost use Rattle.slot_page.specs.Pages.{page_at, put_tid, slot_of};
 ghost use Rattle.snapshot_registry.specs.Snapshots.{is_registered};
 ghost use Rattle.row_versions.specs.Versions.{is_newly_dead, new_version};
-ghost use Rattle.row_versions.specs.DeadSlots.{dead_tids};
+ghost use Rattle.slot_page.specs.DeadSlots.{dead_tids};
 ghost use Rattle.row_versions.specs.Keys.{entry_cmp, names_one_of};
 ghost use Rattle.row_versions.specs.Relations.{AreAssigned, no_versions, is_seen, version_in, versions_of, with_ended, with_pruned, with_reaped, with_version, without_entries};
 ghost use Rattle.row_versions.specs.declared.keys.KeyEntry.{KeyEntry};

@@ -10,13 +10,13 @@ ghost use Rattle.session_shell.specs.Lines.{no_line, with_reply};
 
 use crate::print::text_of;
 use crate::steps::{First, Later, first_step, later_step};
-use command_set::{Command, Item, JournalEntry, Kind, Reply, SchemaList, Script};
+use command_set::{Command, Item, JournalEntry, Kind, Reply, Script};
 use std::alloc::{AllocError, Global};
 use std::marker::Model;
 use toast_core::parts::Job;
 use toast_core::{Core, Setup, Under};
 use toast_io::Bytes;
-use tuple_layout::{Schema, SchemaFault};
+use tuple_layout::copy_of_schemas;
 
 /// What a turn of a session has come to.
 #[derive(Clone, Copy, Debug, PartialEq, Eq)]
@@ -93,7 +93,7 @@ impl Hub {
             entry: 0,
             line: 0
         }; script.sessions.len()]?;
-        let schemas = copy_schemas(alloc, &script.schemas)?;
+        let schemas = copy_of_schemas(alloc, &script.schemas)?;
         let sessions = script.sessions.len() as u16;
         let setup = Setup {
             schemas,
@@ -390,21 +390,6 @@ fn count_commands(script: &Script) -> usize
         count += session.len();
     }
     count
-}
-
-// The same tables.
-fn copy_schemas(alloc: Global, schemas: &SchemaList) -> Result<SchemaList, AllocError>
-    ensures { IfOk result (λ copy. copy ≡ schemas.now) }
-{
-    let mut copy = SchemaList::new(alloc);
-    for schema in schemas.as_slice() {
-        match Schema::new(alloc, schema.storages()) {
-            Ok(schema) => copy.push(schema)?,
-            Err(SchemaFault::Memory) => return Err(AllocError),
-            Err(SchemaFault::Count { .. }) => unreachable!(),
-        }
-    }
-    Ok(copy)
 }
 
 // The command after those that a session has begun.

@@ -1,4 +1,10 @@
+ghost use Rattle.std.specs.Prelude.{IfOk};
+ghost use Rattle.session_shell.specs.Hubs.{IsSessionOf};
+
 use super::{Bytes, BytesList, Status, toast_replay};
+use crate::hub::{Hub, Turn};
+use command_set::Reply;
+use script_text::{ScriptFault, parse_script};
 use std::alloc::{AllocError, Global};
 use std::test::Fail;
 use toast_io::{CallList, MemSink, MemSource};
@@ -33,8 +39,7 @@ const THREE_BEFORE: &str =
 
 const THREE_BEHIND: &str = "\ns2.4 ok\ns3.3 rolled back\n";
 
-// The length of all replies: 75 bytes before the digits of the row, 5000 digits, and 26 bytes behind them.
-const THREE_LENGTH: usize = 5101;
+const DIGITS: &[u8; 16] = b"0123456789abcdef";
 
 #[test]
 fn scripts_are_replayed(rt: HostRuntime) -> Result<(), Fail> {
@@ -169,11 +174,58 @@ fn feeds_replayed(alloc: Global, count: usize) -> Result<Status, AllocError> {
 fn three_sessions_take_turns_as_the_schedule_says(rt: HostRuntime) -> Result<(), Fail> {
     let (status, sink) = replayed(rt.alloc(), THREE)?;
     assert_eq!(rt; status, Status::Done);
-    let text = sink.written();
-    assert!(rt; text.starts_with(THREE_BEFORE.as_bytes()));
-    assert!(rt; text.ends_with(THREE_BEHIND.as_bytes()));
-    assert_eq!(rt; text.len(), THREE_LENGTH);
+    assert_eq!(rt; sink.written(), three_replies(rt.alloc())?.as_slice());
     Ok(())
+}
+
+// The replies of the three sessions. The 2,500 bytes of the row count from 0 to 250, again and again.
+fn three_replies(alloc: Global) -> Result<Vec<u8>, AllocError> {
+    let mut text = Vec::new(alloc);
+    text.extend_from_slice(THREE_BEFORE.as_bytes())?;
+    for at in 0..2500 {
+        let byte = at % 251;
+        text.push(DIGITS[byte / 16])?;
+        text.push(DIGITS[byte % 16])?;
+    }
+    text.extend_from_slice(THREE_BEHIND.as_bytes())?;
+    Ok(text)
+}
+
+#[test]
+fn a_hub_answers_turn_by_turn(rt: HostRuntime) -> Result<(), Fail> {
+    let Ok(mut hub) = one_session(rt.alloc()) else {
+        return Err(Fail);
+    };
+    assert!(rt; hub.reply(0).is_none());
+    // Each turn's answer, and the number of entries and of replies after it. The insert has its
+    // moment, puts two pieces, and then its version.
+    for (turn, entries, replies) in [
+        (Turn::Ended { entry: 0 }, 1, 1),
+        (Turn::More, 2, 1),
+        (Turn::More, 2, 1),
+        (Turn::More, 2, 1),
+        (Turn::Ended { entry: 1 }, 2, 2),
+        (Turn::Ended { entry: 2 }, 3, 3),
+        (Turn::Nothing, 3, 3),
+    ] {
+        assert_eq!(rt; hub.turn(1), turn);
+        assert_eq!(rt; hub.journal().len(), entries);
+        assert!(rt; hub.reply(replies).is_none());
+        assert_eq!(rt; hub.reply(replies - 1), Some(&Reply::Okay));
+    }
+    Ok(())
+}
+
+// A hub of one session, which puts a row of two pieces.
+fn one_session(alloc: Global) -> Result<Hub, ScriptFault>
+    ensures { IfOk result (λ hub. IsSessionOf hub.script 1) }
+{
+    let text = b"table e\nsession\nbegin rc\ninsert t1 1 c2500.0\ncommit\n";
+    let script = parse_script(alloc, text)?;
+    if script.sessions.is_empty() {
+        return Err(ScriptFault::Memory);
+    }
+    Ok(Hub::new(alloc, script)?)
 }
 
 #[test]

@@ -2,3 +2,4 @@ mod Lookups
 mod Rooms
 pub mod Tids
 pub mod Pages
+pub mod Gathered

@@ -2,3 +2,4 @@ pub mod Slots
 pub mod Lends
 pub mod Tids
 pub mod Pages
+pub mod DeadSlots

@@ -13,7 +13,7 @@ use Rattle.toast_core.specs.declared.parts.Seat.{Seat}
 use Rattle.toast_core.specs.State.{IsSession}
 use Rattle.toast_core.specs.Events.{given_up}
 use Rattle.toast_core.specs.Sound.{holder_of, is_holder, AreClaims}
-use Rattle.toast_core.proofs.Statuses.{same_place_is}
+use Rattle.tuple_layout.proofs.PlaceLemmas.{same_place_is}
 
 or_or : (a b c : Bool) → (a || (b || c)) ≡ ((a || b) || c)
 or_or true b c = refl

@@ -24,7 +24,8 @@ use Rattle.toast_core.specs.declared.parts.Seat.{Seat}
 use Rattle.toast_core.specs.State.{CoreState, IsSession, seat_of, xid_of, own_changes, changes_by, changes_in, coming, insertion, joined, version_by, is_alive, value_of, row_of}
 use Rattle.toast_core.specs.Events.{seated, bytes_of, is_cut, is_putting, first_id, id_for, next_bytes, put_on, stored, version_for}
 use Rattle.toast_core.specs.Sound.{SeatIsSound, IsSound, IsWriting, IsKept, AreVersions, AreBelow, is_holder, holder_of}
-use Rattle.toast_core.proofs.Statuses.{runs_for, same_place_is, same_place_self}
+use Rattle.tuple_layout.proofs.PlaceLemmas.{same_place_is, same_place_self}
+use Rattle.toast_core.proofs.Statuses.{runs_for}
 use Rattle.toast_core.proofs.Pieces.{joined_push, joined_other, joined_same, joined_none, below_higher, below_push}
 use Rattle.toast_core.proofs.Versions.{found_push, changes_push, changes_piece, versions_piece, versions_push}
 use Rattle.toast_core.proofs.Claims.{named_both, claims_seats}

@@ -1,34 +1,13 @@
--- Places that are one, and tests of what xids did.
+-- Tests of what xids did.
 use Rattle.std.proofs.Common.{◌≡◌, ◌≢◌, ℕ, ℤ, Bool, true, false, Some, None, refl, ap, ◌∙◌, arith, cond, ◌⊎◌, inl, inr}
 use Rattle.std.specs.Prelude.{◌==◌, is_some, option_and_then}
-use Rattle.std.specs.Ordering.{nat_cmp, int_cmp}
-use Rattle.std.specs.FinMap as finite
 use Rattle.std.proofs.lemmas.Bool.Decides.{nat_tests}
-use Rattle.std.proofs.lemmas.Map.Views.{tells_apart}
-use Rattle.std.proofs.lemmas.Map.Lookups.{exact_pairs, exact_unsigned, exact_signed}
-use Rattle.tuple_layout.specs.declared.Place.{Place}
-use Rattle.tuple_layout.specs.Places.{place_cmp, place_total, same_place}
-use Rattle.std.specs.Cmp.{eq_by_cmp_equiv}
 use Rattle.xact_status.specs.Xacts.{Xacts, IsAssigned, xact_at, session_of, session_at, next_xid, is_running, is_committed, after_assign, after_commit, after_abort}
 use Rattle.xact_status.specs.declared.Xact.{Xact}
 use Rattle.xact_status.specs.declared.Xact.TheVariants.{Running}
 use Rattle.xact_status.proofs.Places.{xact_at_set, xact_at_push, assigned_from_running}
 use Rattle.xact_status.proofs.Events.{committed_assign, committed_commit, committed_abort}
 use Rattle.toast_core.specs.State.{is_alive}
-
--- only one place ties with a place
-place_exact : finite.IsAntisymmetric place_cmp
-place_exact p q e =
-    let made : ℕ × ℤ → Place = λ x. record { table = x.0; key = x.1 } in
-    ap made (exact_pairs nat_cmp int_cmp exact_unsigned exact_signed (p.table, p.key) (q.table, q.key) e)
-
--- two places that a test takes for one are one
-pub same_place_is : (p q : Place) → same_place p q ≡ true → p ≡ q
-same_place_is p q e = tells_apart place_exact p q e
-
--- a place is itself
-pub same_place_self : (p : Place) → same_place p p ≡ true
-same_place_self p = (eq_by_cmp_equiv place_total).refl p
 
 -- a test holds or it does not
 pub either : (b : Bool) → (b ≡ true) ⊎ (b ≡ false)

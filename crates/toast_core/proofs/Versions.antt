@@ -13,7 +13,7 @@ use Rattle.toast_core.specs.declared.parts.Version.{Version}
 use Rattle.toast_core.specs.declared.parts.Piece.{Piece}
 use Rattle.toast_core.specs.State.{version_by, row_of, changes_by, own_changes, in_sight, is_own, is_alive, insertion}
 use Rattle.toast_core.specs.Sound.{AreVersions, IsKept}
-use Rattle.toast_core.proofs.Statuses.{same_place_is}
+use Rattle.tuple_layout.proofs.PlaceLemmas.{same_place_is}
 use Rattle.toast_core.proofs.Pieces.{value_push, kept_push}
 
 -- what is found is the same by two tests that tell alike of every xid that was given

@@ -26,7 +26,7 @@ use list_facts::ListOf;
 use snapshot_registry::SnapRegistry;
 use std::alloc::{AllocError, Global};
 use std::marker::Model;
-use tuple_layout::{Schema, SchemaFault};
+use tuple_layout::copy_of_schemas;
 use xact_status::XactTable;
 
 /// What an advance of a session has come to.
@@ -89,30 +89,6 @@ fn failed(state: State) -> State
         State::Outside => State::Outside,
         State::Failed => State::Failed,
     }
-}
-
-// A copy of a schema.
-fn copy_of_schema(alloc: Global, schema: &Schema) -> Result<Schema, AllocError>
-    ensures { IfOk result (λ copy. copy ≡ schema.now) }
-{
-    match Schema::new(alloc, schema.storages()) {
-        Ok(copy) => Ok(copy),
-        Err(SchemaFault::Memory) => Err(AllocError),
-        Err(SchemaFault::Count { got: _ }) => Err(AllocError),
-    }
-}
-
-// A copy of schemas.
-fn copy_of_schemas(alloc: Global, schemas: &SchemaList) -> Result<SchemaList, AllocError>
-    ensures { IfOk result (λ copy. copy ≡ schemas.now) }
-{
-    let mut copies = ListOf::new(alloc);
-    let schemas = schemas.as_slice();
-    for schema in schemas {
-        let copy = copy_of_schema(alloc, schema)?;
-        copies.push(copy)?;
-    }
-    Ok(copies)
 }
 
 // The seats of so many sessions, which are in no transaction.

@@ -6,3 +6,4 @@ pub mod ColumnLemmas
 pub mod Exclusive
 pub mod HeaderRead
 pub mod Judged
+pub mod PlaceLemmas

@@ -105,6 +105,25 @@ impl Schema {
     {
         self.storages.as_slice()
     }
+
+    /// The same schema once more, in memory of its own.
+    pub fn copy(&self, alloc: Global) -> Result<Schema, AllocError>
+        ensures { IfOk result (λ copy. copy ≡ self.now) }
+    {
+        let storages = ListOf::from_slice(alloc, self.storages.as_slice())?;
+        Ok(Schema { storages })
+    }
+}
+
+/// The same schemas once more, in memory of their own.
+pub fn copy_of_schemas(alloc: Global, schemas: &SchemaList) -> Result<SchemaList, AllocError>
+    ensures { IfOk result (λ copy. copy ≡ schemas.now) }
+{
+    let mut copies = SchemaList::new(alloc);
+    for schema in schemas.as_slice() {
+        copies.push(schema.copy(alloc)?)?;
+    }
+    Ok(copies)
 }
 
 #[cfg(test)]

@@ -168,26 +168,26 @@ fn is_judged(alloc: Global, schema: &Schema, bytes: &[u8]) -> Result<bool, Fail>
     }
 }
 
-/// Whether bytes are judged with each other bit at a place.
+/// Whether bytes are judged with each other byte at a place.
 fn are_judged_at(
     alloc: Global,
     schema: &Schema,
     bytes: &mut [u8],
     at: usize,
 ) -> Result<bool, Fail> {
-    for bit in 0..8 {
-        flip(bytes, at, bit);
+    for difference in 1..=255 {
+        flip(bytes, at, difference);
         if !is_judged(alloc, schema, bytes)? {
             return Ok(false);
         }
-        flip(bytes, at, bit);
+        flip(bytes, at, difference);
     }
     Ok(true)
 }
 
-fn flip(bytes: &mut [u8], at: usize, bit: u32) {
+fn flip(bytes: &mut [u8], at: usize, difference: u8) {
     if let Some(byte) = bytes.get_mut(at) {
-        *byte ^= 1u8.wrapping_shl(bit);
+        *byte ^= difference;
     }
 }
 
@@ -208,7 +208,7 @@ fn each_change_is_judged(alloc: Global, columns: usize) -> Result<bool, Fail> {
 }
 
 #[test]
-fn a_changed_bit_is_refused_or_spells_another_row(rt: HostRuntime) -> Result<(), Fail> {
+fn a_changed_byte_is_refused_or_spells_another_row(rt: HostRuntime) -> Result<(), Fail> {
     let alloc = rt.alloc();
     for columns in [1, 2, 3, 4, 8] {
         assert!(rt; each_change_is_judged(alloc, columns)?, "at {columns}");
@@ -277,5 +277,48 @@ fn faults_in_their_order(rt: HostRuntime) -> Result<(), Fail> {
     }
     let short_in_plain = fault_of(rt.alloc(), Storage::Plain, 36, 0, 0)?;
     assert_eq!(rt; short_in_plain, TupleFault::BadColumn { column: 1 });
+    Ok(())
+}
+
+/// The fault of a tuple with the smallest row's header and key, of so many byte strings, which these bytes are.
+fn fault_in(alloc: Global, columns: u8, data: &[u8]) -> Result<TupleFault, Fail> {
+    let storages = [Storage::External; 2];
+    let Some(storages) = storages.get(..columns as usize) else {
+        return Err(Fail::new("too many columns"));
+    };
+    let schema = Schema::new(alloc, storages)?;
+    let mut tuple = Vec::new(alloc);
+    tuple.extend_from_slice(&SMALLEST[..18])?;
+    tuple.push(columns.wrapping_add(1))?;
+    tuple.extend_from_slice(&SMALLEST[19..32])?;
+    tuple.extend_from_slice(data)?;
+    match read_tuple(alloc, &schema, &tuple) {
+        Err(fault) => Ok(fault),
+        Ok(_) => Err(Fail::new("no fault")),
+    }
+}
+
+#[test]
+fn a_compressed_datum_is_named_wherever_it_stands(rt: HostRuntime) -> Result<(), Fail> {
+    for (columns, data, column) in [
+        // inline, where the data are aligned as they are
+        (1, [30, 0, 0, 0, 1, 2, 3].as_slice(), 1),
+        // inline, behind two bytes of padding
+        (2, &[5, 9, 0, 0, 30, 0, 0, 0, 1, 2, 3], 2),
+        // as a pointer to 50 stored bytes of 96
+        (1, &[1, 18, 100, 0, 0, 0, 50, 0, 0, 0, 0, 64, 0, 0, 1, 32, 0, 0], 1),
+        (2, &[5, 9, 1, 18, 100, 0, 0, 0, 50, 0, 0, 0, 0, 64, 0, 0, 1, 32, 0, 0], 2),
+    ] {
+        let fault = fault_in(rt.alloc(), columns, data)?;
+        assert_eq!(rt; fault, TupleFault::Compressed { column });
+    }
+    // padding that is not zero, and a pointer cut short
+    for data in [
+        [5, 9, 0, 1, 30, 0, 0, 0, 1, 2, 3].as_slice(),
+        &[5, 9, 1, 18, 100, 0, 0, 0, 50, 0, 0, 0, 0, 64, 0, 0, 1, 32, 0],
+    ] {
+        let fault = fault_in(rt.alloc(), 2, data)?;
+        assert_eq!(rt; fault, TupleFault::BadColumn { column: 2 });
+    }
     Ok(())
 }

@@ -5,7 +5,7 @@ use Rattle.std.proofs.lemmas.Bool.Decides.{nat_tests}
 use Rattle.std.proofs.lemmas.List.Elements.{Contains-append_left, Contains-append_right, Contains-append_cases}
 use Rattle.value_ids.specs.declared.pool.InHand.{InHand}
 use Rattle.value_ids.specs.Ids.{Pool, IsPool, ids_from, ids_of, is_held, is_in_use, first_free_of, first_free_id, id_after}
-use Rattle.value_ids.proofs.Members.{none_in_nil, cases_in, first_in, later_in, found_is, not_found, find-append_some, find-append_none}
+use Rattle.list_facts.proofs.Members.{none_in_nil, cases_in, first_in, later_in, found_in, none_passes, find-append_some, find-append_none}
 
 -- so many ids are one and the rest
 pub ids_step : (id end : ℕ) → id < end → ids_from id (end - id) ≡ id ∷ ids_from (id + 1) (end - (id + 1))
@@ -63,14 +63,14 @@ in_pool pool id sound at_least at_most = elim (cases_lt id pool.next) [
 
 -- the id that is drawn is one of the pool and was not in use
 pub drawn_within : (used : ℕ → Bool) (pool : Pool) (table id : ℕ) → IsPool pool → first_free_id used pool table ≡ Some id → (pool.low ≤ id) × (id ≤ pool.high)
-drawn_within used pool table id sound drawn = pool_in pool id sound (found_is (λ x. not (is_in_use used pool.in_hand table x)) (ids_of pool) id drawn).0
+drawn_within used pool table id sound drawn = pool_in pool id sound (found_in (λ x. not (is_in_use used pool.in_hand table x)) (ids_of pool) id drawn).0
 
 pub drawn_free : (used : ℕ → Bool) (pool : Pool) (table id : ℕ) → first_free_id used pool table ≡ Some id → is_in_use used pool.in_hand table id ≡ false
-drawn_free used pool table id drawn = not-true (is_in_use used pool.in_hand table id) (found_is (λ x. not (is_in_use used pool.in_hand table x)) (ids_of pool) id drawn).1
+drawn_free used pool table id drawn = not-true (is_in_use used pool.in_hand table id) (found_in (λ x. not (is_in_use used pool.in_hand table x)) (ids_of pool) id drawn).1
 
 -- where none is drawn, each id of the pool is in use
 pub none_free : (used : ℕ → Bool) (pool : Pool) (table id : ℕ) → IsPool pool → first_free_id used pool table ≡ None → pool.low ≤ id → id ≤ pool.high → is_in_use used pool.in_hand table id ≡ true
-none_free used pool table id sound none at_least at_most = not-false (is_in_use used pool.in_hand table id) (not_found (λ x. not (is_in_use used pool.in_hand table x)) (ids_of pool) id none (in_pool pool id sound at_least at_most))
+none_free used pool table id sound none at_least at_most = not-false (is_in_use used pool.in_hand table id) (none_passes (λ x. not (is_in_use used pool.in_hand table x)) (ids_of pool) id none (in_pool pool id sound at_least at_most))
 
 -- the counter goes on to an id of the pool
 pub after_within : (pool : Pool) (id : ℕ) → IsPool pool → pool.low ≤ id → id ≤ pool.high → (pool.low ≤ id_after pool id) × (id_after pool id ≤ pool.high)

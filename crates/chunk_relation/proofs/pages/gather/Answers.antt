@@ -1,7 +1,7 @@
 use Rattle.std.proofs.Common.{arith}
 use Rattle.chunk_relation.specs.Chunks.{pruned}
-use Rattle.chunk_relation.specs.DeadSlots.{is_dead_line}
-use Rattle.chunk_relation.proofs.Gathered.{gathered_all}
+use Rattle.slot_page.specs.DeadSlots.{is_dead_line}
+use Rattle.slot_page.proofs.Gathered.{gathered_all}
 use Rattle.chunk_relation.proofs.pages.gather.Goals as goal
 
 pub returns-clause-gathered : goal.returns-clause-gathered

@@ -1,6 +1,6 @@
 use Rattle.std.proofs.Common.{◌≡◌, ◌++◌, drop, length, take}
 use Rattle.chunk_relation.specs.Chunks.{pruned}
-use Rattle.chunk_relation.specs.DeadSlots.{is_dead_line, tids_where}
+use Rattle.slot_page.specs.DeadSlots.{is_dead_line, tids_where}
 use Rattle.chunk_relation.proofs.pages.gather.Given as goal
 
 abbrev pub invariant-loop-slot : goal.invariant-loop-slot

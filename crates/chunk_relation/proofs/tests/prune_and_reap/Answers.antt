@@ -1,7 +1,7 @@
 use Rattle.std.proofs.Common.{◌++◌, sym, ap, ◌∙◌}
 use Rattle.slot_page.specs.Pages.{page_at}
-use Rattle.chunk_relation.specs.DeadSlots.{dead_tids}
-use Rattle.chunk_relation.proofs.Gathered.{gathered_dead}
+use Rattle.slot_page.specs.DeadSlots.{dead_tids}
+use Rattle.slot_page.proofs.Gathered.{gathered_dead}
 use Rattle.chunk_relation.proofs.Events.{assigned_pruned, assigned_reaped}
 use Rattle.chunk_relation.proofs.tests.prune_and_reap.Goals as goal
 

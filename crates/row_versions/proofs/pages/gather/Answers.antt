@@ -1,7 +1,7 @@
 use Rattle.std.proofs.Common.{arith}
 use Rattle.row_versions.specs.Versions.{pruned}
-use Rattle.row_versions.specs.DeadSlots.{is_dead_line}
-use Rattle.row_versions.proofs.Gathered.{gathered_all}
+use Rattle.slot_page.specs.DeadSlots.{is_dead_line}
+use Rattle.slot_page.proofs.Gathered.{gathered_all}
 use Rattle.row_versions.proofs.pages.gather.Goals as goal
 
 pub returns-clause-gathered : goal.returns-clause-gathered

@@ -1,8 +1,8 @@
 use Rattle.std.proofs.Common.{◌++◌, sym, ap, ◌∙◌}
 use Rattle.slot_page.specs.Pages.{page_at}
-use Rattle.row_versions.specs.DeadSlots.{dead_tids}
+use Rattle.slot_page.specs.DeadSlots.{dead_tids}
 use Rattle.row_versions.proofs.Entries.{unnamed_after}
-use Rattle.row_versions.proofs.Gathered.{gathered_are, listed_at}
+use Rattle.slot_page.proofs.Gathered.{gathered_are, listed_at}
 use Rattle.row_versions.proofs.Events.{assigned_pruned, assigned_reaped}
 use Rattle.row_versions.proofs.tests.vacuum.Goals as goal
 

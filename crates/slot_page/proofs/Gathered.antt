@@ -14,8 +14,8 @@ use Rattle.slot_page.specs.Slots.{IsDead, slot_at}
 use Rattle.slot_page.specs.Pages.{page_at, slot_of}
 use Rattle.slot_page.specs.Tids.{tid_cmp}
 use Rattle.slot_page.proofs.Tids.{tid_same}
-use Rattle.row_versions.specs.DeadSlots.{tids_where, is_dead_line, dead_tids}
-use Rattle.row_versions.proofs.Members.{none_in_nil, cases_in, first_in, later_in}
+use Rattle.slot_page.specs.DeadSlots.{tids_where, is_dead_line, dead_tids}
+use Rattle.list_facts.proofs.Members.{none_in_nil, cases_in, first_in, later_in}
 
 -- the tids where the slots pass a test after a change are those where they pass the changed test before it
 pub tids_where-map : {T : Type 0} (test : LinePointer T → Bool) (f : LinePointer T → LinePointer T) (page slot : ℕ) (lines : List (LinePointer T)) → tids_where test page slot (map f lines) ≡ tids_where (λ line. test (f line)) page slot lines

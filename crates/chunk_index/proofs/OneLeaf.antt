@@ -8,7 +8,7 @@ use Rattle.slot_page.specs.declared.line.Tid.{Tid}
 use Rattle.chunk_index.specs.declared.entry.Entry.{Entry}
 use Rattle.chunk_index.specs.declared.entry.Pin.{Pin}
 use Rattle.chunk_index.specs.declared.entry.Swept.TheVariants.{End, Pinned}
-use Rattle.chunk_index.specs.Entries.{is_listed}
+use Rattle.slot_page.specs.Tids.{is_listed}
 use Rattle.chunk_index.specs.Leaves.{Leaf, in_leaf, leaf_at, bounds_left}
 use Rattle.chunk_index.specs.Pinned.{holder_of}
 use Rattle.chunk_index.specs.Indexes.{Index, batch_of, is_swept, unswept, swept_index, after_sweep, sweep_answer}

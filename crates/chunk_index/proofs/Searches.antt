@@ -1,13 +1,12 @@
 -- What is found by halves in lists that are in order.
-use Rattle.std.proofs.Common.{◌≡◌, inl, inr, ℕ, ◌<◌, ◌≤◌, ◌+◌, Bool, true, false, Result, Ok, Err, List, [], ◌∷◌, length, get_or, drop, refl, sym, ap, ◌∙◌, arith, zero, suc}
-use Rattle.std.specs.List.{insert, AllByRecursion, list_any}
-use Rattle.std.specs.List.Sorted.{IsStrictlySortedBy, IsSorted, IsPartitionedBy, IsBinarySearchResult, IsSearchInRange}
-use Rattle.std.specs.Result.{is_ok}
+use Rattle.std.proofs.Common.{◌≡◌, inl, inr, ℕ, ◌<◌, ◌≤◌, ◌+◌, Bool, true, Err, List, [], ◌∷◌, length, get_or, drop, ap, ◌∙◌, arith, zero, suc}
+use Rattle.std.specs.List.{insert, AllByRecursion}
+use Rattle.std.specs.List.Sorted.{IsStrictlySortedBy, IsSorted, IsPartitionedBy, IsBinarySearchResult}
 use Rattle.std.specs.declared.cmp.Ordering.{Ordering}
 use Rattle.std.specs.declared.cmp.Ordering.TheVariants.{Less}
-use Rattle.std.specs.Ordering.{is_lt, is_eq, eq_by_cmp, ordering_reverse}
+use Rattle.std.specs.Ordering.{is_lt, ordering_reverse}
 use Rattle.std.specs.Cmp.{IsTotalOrder}
-use Rattle.std.proofs.lemmas.Bool.{cases_eq, cases_lt}
+use Rattle.std.proofs.lemmas.Bool.{cases_eq}
 use Rattle.std.proofs.lemmas.List.Sorted.{searchable_from_sorted}
 use Rattle.chunk_index.specs.Orders.{inserted}
 use Rattle.chunk_index.proofs.Inserted.{inserted_at}
@@ -50,20 +49,3 @@ insert_place {X} {cmp} o x xs at sorted within answer =
     inserted_at cmp x xs at within
     (λ k d below. ap is_lt (o.antisymm x (get_or xs k d) ∙ ap ordering_reverse (parts.0 k d (omega arith) below)))
     (λ d inside. ap is_lt (o.antisymm x (get_or xs at d) ∙ ap ordering_reverse (parts.1 at d (omega arith) inside)))
-
--- a test of some element
-any_at : {X : Type 0} (p : X → Bool) (xs : List X) (k : ℕ) (d : X) → k < length xs → p (get_or xs k d) ≡ true → list_any p xs ≡ true
-any_at p [] k d within passes = absurd (omega (arith, within))
-any_at p (x ∷ xs) zero d within passes = grind arith
-any_at p (x ∷ xs) (suc k) d within passes = grind (arith, any_at p xs k d (omega (arith, within)) passes)
-
-any_none : {X : Type 0} (p : X → Bool) (xs : List X) → ((k : ℕ) (d : X) → k < length xs → p (get_or xs k d) ≡ false) → list_any p xs ≡ false
-any_none p [] fails = refl
-any_none p (x ∷ xs) fails = grind (arith, fails zero x (omega arith), any_none p xs (λ k d within. fails (suc k) d (omega (arith, within))))
-
--- whether a search finds an element tells whether the list has one that ties with it
-pub found_any : {X : Type 0} {cmp : X → X → Ordering} → IsTotalOrder cmp → (x : X) (xs : List X) (r : Result ℕ ℕ) → IsSorted cmp xs → IsSearchInRange r (length xs) → IsBinarySearchResult (λ y. cmp y x) xs r → is_ok r ≡ list_any (λ y. eq_by_cmp cmp y x) xs
-found_any {cmp = cmp} o x xs (Ok at) sorted within answer = sym (any_at (λ y. eq_by_cmp cmp y x) xs at x within (ap is_eq (answer x)))
-found_any {cmp = cmp} o x xs (Err at) sorted within answer =
-    let parts = answer (searchable_from_sorted o (λ y. y) xs x sorted) in
-    sym (any_none (λ y. eq_by_cmp cmp y x) xs (λ k d inside. elim (cases_lt k at) [ inl below ↦ ap is_eq (parts.0 k d (omega arith) below) | inr beyond ↦ ap is_eq (parts.1 k d beyond inside) ]))

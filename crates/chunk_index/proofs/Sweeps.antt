@@ -3,7 +3,8 @@ use Rattle.std.proofs.Common.{◌≡◌, inl, inr, Bool, true, false, not, ◌&&
 use Rattle.std.proofs.lemmas.Bool.{cases_Bool, and_parts, and_cases, not-true, not_from_false}
 use Rattle.slot_page.specs.declared.line.Tid.{Tid}
 use Rattle.chunk_index.specs.declared.entry.Entry.{Entry}
-use Rattle.chunk_index.specs.Entries.{entry_cmp, is_listed, with_entry}
+use Rattle.slot_page.specs.Tids.{is_listed}
+use Rattle.chunk_index.specs.Entries.{entry_cmp, with_entry}
 use Rattle.chunk_index.specs.Leaves.{Leaf, is_from, is_below, next_bound, in_leaf, leaf_of}
 use Rattle.chunk_index.specs.Indexes.{is_swept, unswept}
 use Rattle.std.specs.declared.cmp.Ordering.{Ordering}

@@ -1,9 +1,7 @@
 -- The entries of the index of a table's chunks (PostgreSQL, "TOAST, Out-of-Line, On-Disk TOAST Storage").
 use Rattle.std.specs.Prelude.{ℕ, Bool, true, not, ◌&&◌, ◌||◌, ◌==◌, nat_lt, nat_le, Option, Some, None, List, filter}
-use Rattle.std.specs.List.{list_any}
 use Rattle.std.specs.declared.cmp.Ordering.{Ordering}
-use Rattle.std.specs.Ordering.{nat_cmp, ordering_then, is_gt, eq_by_cmp}
-use Rattle.slot_page.specs.declared.line.Tid.{Tid}
+use Rattle.std.specs.Ordering.{nat_cmp, ordering_then, is_gt}
 use Rattle.slot_page.specs.Tids.{tid_cmp}
 use Rattle.chunk_index.specs.declared.entry.Entry.{Entry}
 use Rattle.chunk_index.specs.Orders.{inserted}
@@ -44,7 +42,3 @@ comes_before value_id from after e = falls_short value_id from e || not (is_afte
 -- whether an entry is at most the last that may be wanted
 abbrev pub reaches : ℕ → ℕ → Entry → Bool
 reaches value_id to e = nat_lt e.value_id value_id || (e.value_id == value_id) && nat_le e.seq to
-
--- whether a list of tids has a tid
-abbrev pub is_listed : List Tid → Tid → Bool
-is_listed tids tid = list_any (λ t. eq_by_cmp tid_cmp t tid) tids

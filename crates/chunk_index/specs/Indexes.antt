@@ -7,7 +7,8 @@ use Rattle.chunk_index.specs.declared.entry.Entry.{Entry}
 use Rattle.chunk_index.specs.declared.entry.Pin.{Pin}
 use Rattle.chunk_index.specs.declared.entry.Swept.{Swept}
 use Rattle.chunk_index.specs.declared.entry.Swept.TheVariants.{Next, End, Pinned}
-use Rattle.chunk_index.specs.Entries.{entry_cmp, is_listed}
+use Rattle.slot_page.specs.Tids.{is_listed}
+use Rattle.chunk_index.specs.Entries.{entry_cmp}
 use Rattle.chunk_index.specs.Leaves.{Leaf, in_leaf, leaf_of, next_bound, bounds_left}
 use Rattle.chunk_index.specs.Pinned.{pin_cmp, with_pin, holder_of}
 

@@ -3,7 +3,7 @@
 ghost use Rattle.std.specs.Prelude.{◌≡◌, ◌==◌, [], Contains, None, Some, if◌then◌else◌, length, nat_lt, slice_get, IfOk, OnErr, OnOk};
 ghost use Rattle.std.specs.List.Sorted.{IsSorted};
 ghost use Rattle.slot_page.specs.Tids.{tid_cmp};
-ghost use Rattle.chunk_index.specs.Entries.{is_listed, of_id, wanted_of, with_entry};
+ghost use Rattle.chunk_index.specs.Entries.{of_id, wanted_of, with_entry};
 ghost use Rattle.chunk_index.specs.Leaves.{leaf_at};
 ghost use Rattle.chunk_index.specs.Pinned.{pin_of, without_pin};
 ghost use Rattle.chunk_index.specs.Indexes.{AddsBounds, IsIndex, after_batch, after_sweep, batch_of, sweep_answer};
@@ -12,19 +12,12 @@ use crate::TidList;
 use crate::entry::{Batch, Entry, EntryList, Swept};
 use crate::pins::Pins;
 use crate::wanted::{Wanted, start_of};
-use slot_page::Tid;
+use slot_page::is_listed;
 use std::alloc::{AllocError, Global};
 use std::marker::Model;
 
 /// For how many entries an index has memory from the start.
 const FIRST_ROOM: usize = 64;
-
-/// Whether a list of tids in order has a tid.
-fn is_listed(dead: &TidList, tid: &Tid) -> bool
-    ensures { IsSorted tid_cmp dead.now → result ≡ is_listed dead.now tid.now }
-{
-    dead.as_slice().binary_search(tid).is_ok()
-}
 
 /// The n-th of some entries, counted from 0.
 fn nth(entries: &[Entry], n: usize) -> Option<Entry>
@@ -162,7 +155,8 @@ impl ChunkIndex {
             return Swept::Pinned { holder };
         }
         let before = self.entries.len();
-        self.entries.retain(|entry| !is_listed(dead, &entry.tid));
+        self.entries
+            .retain(|entry| !is_listed(dead.as_slice(), &entry.tid));
         let removed = (before - self.entries.len()) as u64;
         Swept::End { removed }
     }

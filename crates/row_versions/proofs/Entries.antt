@@ -1,41 +1,25 @@
 -- Entries of the key map: their order, and which tids they name.
-use Rattle.std.proofs.Common.{◌≡◌, ◌≢◌, ℤ, Bool, true, false, not, ◌&&◌, ◌||◌, ◌==◌, List, [], ◌∷◌, filter, Contains, inl, inr, refl, sym, ap, ◌∙◌, arith, eq-eqb}
+use Rattle.std.proofs.Common.{◌≡◌, ◌≢◌, ℤ, true, false, not, ◌&&◌, List, filter, Contains, refl, sym, ap, ◌∙◌}
 use Rattle.std.specs.Cmp.{IsTotalOrder}
-use Rattle.std.specs.Ordering.{int_cmp, is_eq, is_le, is_lt, ordering_then, nat_cmp}
+use Rattle.std.specs.Ordering.{int_cmp, is_eq, is_le, is_lt, ordering_then}
 use Rattle.std.specs.declared.cmp.Ordering.{Ordering}
 use Rattle.std.specs.declared.cmp.Ordering.TheVariants.{Less, Equal, Greater}
 use Rattle.std.proofs.lemmas.Cmp.{alike_right, int_cmp_total, on_total, then_total}
-use Rattle.std.proofs.lemmas.Map.Lookups.{exact_pairs, exact_signed, exact_unsigned}
-use Rattle.std.proofs.lemmas.Map.Views.{Contains-from_any}
-use Rattle.std.proofs.lemmas.Bool.Decides.{nat_tests}
+use Rattle.std.proofs.lemmas.Map.Lookups.{exact_pairs, exact_signed}
 use Rattle.slot_page.specs.declared.line.Tid.{Tid}
 use Rattle.slot_page.specs.Tids.{tid_cmp}
-use Rattle.slot_page.proofs.Tids.{tid_same, tid_total}
+use Rattle.slot_page.proofs.Tids.{tid_equal, tid_total, among_listed}
 use Rattle.row_versions.specs.declared.keys.KeyEntry.{KeyEntry}
 use Rattle.row_versions.specs.Keys.{entry_cmp, names_one_of}
-use Rattle.list_facts.proofs.Members.{none_in_nil, cases_in, filter_holds}
+use Rattle.list_facts.proofs.Members.{filter_holds}
 
 -- the order by key and tid is total
 pub entry_total : IsTotalOrder entry_cmp
 entry_total = then_total (on_total (λ (e : KeyEntry). e.key) int_cmp_total) (on_total (λ (e : KeyEntry). e.tid) tid_total)
 
-exact_tids : (t u : Tid) → tid_cmp t u ≡ Equal → t ≡ u
-exact_tids t u e = let pairs = exact_pairs nat_cmp nat_cmp exact_unsigned exact_unsigned (t.page, t.slot) (u.page, u.slot) e in λ i. record { page = (pairs i).0; slot = (pairs i).1 }
-
 -- only one entry ties with an entry
 pub entry_exact : (e f : KeyEntry) → entry_cmp e f ≡ Equal → e ≡ f
-entry_exact e f tie = let pairs = exact_pairs int_cmp tid_cmp exact_signed exact_tids (e.key, e.tid) (f.key, f.tid) tie in λ i. record { key = (pairs i).0; tid = (pairs i).1 }
-
--- a test on both parts of two tids
-abbrev pub same_tid : Tid → Tid → Bool
-same_tid t u = (u.page == t.page) && (u.slot == t.slot)
-
-same_tid_is : (t u : Tid) → same_tid t u ≡ true → t ≡ u
-same_tid_is t u e = tid_same t u (grind (arith, nat_tests)) (grind (arith, nat_tests))
-
--- an entry that names one of these tids names one that is among them
-pub named_among : (tids : List Tid) (e : KeyEntry) → names_one_of tids e ≡ true → Contains tids e.tid
-named_among tids e named = Contains-from_any {eq = same_tid} same_tid_is e.tid tids named
+entry_exact e f tie = let pairs = exact_pairs int_cmp tid_cmp exact_signed tid_equal (e.key, e.tid) (f.key, f.tid) tie in λ i. record { key = (pairs i).0; tid = (pairs i).1 }
 
 -- an order of first parts goes before that of second ones
 first_part : (r s : Ordering) → ordering_then r s ≡ Less → is_le r ≡ true
@@ -79,21 +63,9 @@ same_key Less = refl
 same_key Equal = refl
 same_key Greater = refl
 
--- and an entry of a tid that is among these names one of them
-pub names_if : (tids : List Tid) (e : KeyEntry) → Contains tids e.tid → names_one_of tids e ≡ true
-names_if [] e held = absurd (none_in_nil e.tid held)
-names_if (t ∷ ts) e held = elim (cases_in t ts e.tid held) [
-  | inl is ↦ rw (is, eq-eqb e.tid.page e.tid.page refl, eq-eqb e.tid.slot e.tid.slot refl) refl
-  | inr later ↦ rw (names_if ts e later) (or_true ((t.page == e.tid.page) && (t.slot == e.tid.slot)))
-]
-  where
-    or_true : (b : Bool) → (b || true) ≡ true
-    or_true true = refl
-    or_true false = refl
-
--- so no entry that is left names a tid whose entries were taken away
+-- no entry that is left names a tid whose entries were taken away
 pub unnamed_after : (tids : List Tid) (entries : List KeyEntry) (t : Tid) → Contains tids t → (e : KeyEntry) → Contains (filter (λ f. not (names_one_of tids f)) entries) e → e.tid ≢ t
-unnamed_after tids entries t listed e held same = differ (sym (filter_holds (λ f. not (names_one_of tids f)) entries e held).1 ∙ ap not (names_if tids e (rw same listed)))
+unnamed_after tids entries t listed e held same = differ (sym (filter_holds (λ f. not (names_one_of tids f)) entries e held).1 ∙ ap not (among_listed tids e.tid (rw same listed)))
   where
     differ : true ≡ false → ⊥
     differ e = cc

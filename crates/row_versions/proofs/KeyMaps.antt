@@ -17,7 +17,8 @@ use Rattle.row_versions.specs.Versions.{ended, is_dead_version, pruned}
 use Rattle.row_versions.specs.Keys.{entry, entry_cmp, names_one_of, with_entry}
 use Rattle.row_versions.specs.Relations.{Pages, IsKeyMap, Names, pages_ended, pages_pruned}
 use Rattle.row_versions.proofs.Events.{slot_of-pruned}
-use Rattle.row_versions.proofs.Entries.{entry_total, entry_exact, named_among}
+use Rattle.slot_page.proofs.Tids.{listed_among}
+use Rattle.row_versions.proofs.Entries.{entry_total, entry_exact}
 use Rattle.list_facts.proofs.Members.{none_in_nil, filter_holds, held_by_filter}
 use Rattle.row_versions.proofs.Sorted.{sorted_with, held_with, new_held, still_held, sorted_nil}
 
@@ -106,7 +107,7 @@ keys_fewer pages entries tids keys dead = record {
 }
   where
     unnamed : (t : Tid) (version : Version) → item_in pages t ≡ Some version → (b : Bool) → names_one_of tids (entry version.key t) ≡ b → not (names_one_of tids (entry version.key t)) ≡ true
-    unnamed t version is true named = absurd (dead_empty (slot_of pages t) version (dead t (named_among tids (entry version.key t) named)) is)
+    unnamed t version is true named = absurd (dead_empty (slot_of pages t) version (dead t (listed_among tids t named)) is)
     unnamed t version is false other = ap not other
 
 -- a version that is put, with its entry

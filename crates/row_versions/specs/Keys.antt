@@ -1,10 +1,9 @@
 -- The key map of a relation: which tids have, or had, a version of the row at a key (PostgreSQL, "Indexes").
-use Rattle.std.specs.Prelude.{ℤ, Bool, not, ◌&&◌, ◌==◌, List, ◌∷◌, ◌++◌, filter}
-use Rattle.std.specs.List.{list_any}
+use Rattle.std.specs.Prelude.{ℤ, Bool, not, List, ◌∷◌, ◌++◌, filter}
 use Rattle.std.specs.declared.cmp.Ordering.{Ordering}
 use Rattle.std.specs.Ordering.{int_cmp, is_eq, is_lt, ordering_then}
 use Rattle.slot_page.specs.declared.line.Tid.{Tid}
-use Rattle.slot_page.specs.Tids.{tid_cmp}
+use Rattle.slot_page.specs.Tids.{is_listed, tid_cmp}
 use Rattle.row_versions.specs.declared.keys.KeyEntry.{KeyEntry}
 
 -- the entry of a key and a tid
@@ -21,7 +20,7 @@ has_key key e = is_eq (int_cmp e.key key)
 
 -- whether an entry names one of these tids
 abbrev pub names_one_of : List Tid → KeyEntry → Bool
-names_one_of tids e = list_any (λ tid. (tid.page == e.tid.page) && (tid.slot == e.tid.slot)) tids
+names_one_of tids e = is_listed tids e.tid
 
 -- the entries with one more: those below it, it, and the others
 abbrev pub with_entry : List KeyEntry → KeyEntry → List KeyEntry

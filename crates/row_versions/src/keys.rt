@@ -1,12 +1,13 @@
 //! The key map: an entry for each version, in the order of keys and then of tids.
 
 ghost use Rattle.std.specs.Prelude.{◌≡◌, ◌<◌, length, not, filter, count_by, vec_capacity, vec_len};
-ghost use Rattle.std.specs.List.Sorted.{IsStrictlySortedBy};
+ghost use Rattle.std.specs.List.Sorted.{IsSorted, IsStrictlySortedBy};
 ghost use Rattle.std.specs.Ordering.{int_cmp, is_le, is_lt};
+ghost use Rattle.slot_page.specs.Tids.{tid_cmp};
 ghost use Rattle.row_versions.specs.Keys.{entry, entry_cmp, has_key, names_one_of, with_entry};
 
 use crate::TidList;
-use slot_page::Tid;
+use slot_page::{Tid, is_listed};
 
 /// Which tid has, or had, a version of the row at a key.
 #[derive(Clone, Copy, Debug, PartialEq, Eq, PartialOrd, Ord)]
@@ -77,12 +78,13 @@ pub(crate) fn insert_entry(entries: &mut Vec<KeyEntry>, entry: KeyEntry)
     }
 }
 
-/// Takes the entries away that name one of these tids, and answers how many they were.
+/// Takes the entries away that name one of these tids, which are in order, and answers how many they were.
 pub(crate) fn remove_entries(entries: &mut Vec<KeyEntry>, dead: &TidList) -> u64
+    requires { IsSorted tid_cmp dead.now }
     ensures kept { entries.new.items ≡ filter (λ entry. not (names_one_of dead.now entry)) entries.old.items }
     ensures count { result ≡ count_by (names_one_of dead.now) entries.old.items }
 {
     let before = entries.len();
-    entries.retain(|entry| !dead.as_slice().contains(&entry.tid));
+    entries.retain(|entry| !is_listed(dead.as_slice(), &entry.tid));
     (before - entries.len()) as u64
 }

@@ -1,10 +1,11 @@
 //! The relation.
 
 ghost use Rattle.std.specs.Prelude.{◌≡◌, ◌≢◌, ℕ, ◌≤◌, ◌<◌, ◌++◌, true, false, Contains, count_by, length, slice_get, IfNone, IfOk, IfSome, IsTrue, OnErr, OnOk, option_copied};
-ghost use Rattle.std.specs.List.Sorted.{IsStrictlySortedBy};
+ghost use Rattle.std.specs.List.Sorted.{IsSorted};
 ghost use Rattle.slot_page.specs.declared.line.Tid.{Tid};
 ghost use Rattle.slot_page.specs.Slots.{IsDead, IsNormal};
 ghost use Rattle.slot_page.specs.Pages.{page_at, put_tid, slot_of};
+ghost use Rattle.slot_page.specs.Tids.{tid_cmp};
 ghost use Rattle.snapshot_registry.specs.Snapshots.{is_registered};
 ghost use Rattle.row_versions.specs.Versions.{is_newly_dead, new_version};
 ghost use Rattle.slot_page.specs.DeadSlots.{dead_tids};
@@ -157,9 +158,11 @@ impl RowVersions {
     }
 
     /// Takes the entries of the key map away that name one of these dead slots, and answers how many
-    /// they were.
+    /// they were. The tids are in order. It takes time linear in the number of entries and logarithmic
+    /// in that of the tids.
     pub fn unindex(&mut self, dead: &TidList) -> u64
-        requires { (tid : Tid) → Contains dead.now tid → IsDead (slot_of self.old.pages tid) }
+        requires sorted { IsSorted tid_cmp dead.now }
+        requires dead { (tid : Tid) → Contains dead.now tid → IsDead (slot_of self.old.pages tid) }
         ensures removed { self.new ≡ without_entries self.old dead.now }
         ensures count { result ≡ count_by (names_one_of dead.now) self.old.entries }
     {

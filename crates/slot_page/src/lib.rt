@@ -4,8 +4,10 @@
 
 mod line;
 mod page;
+mod search;
 #[cfg(test)]
 mod tests;
 
 pub use line::{LinePointer, Slot, Tid};
 pub use page::{NoRoom, Page};
+pub use search::is_listed;

@@ -1,4 +1,4 @@
-use crate::{NoRoom, Page, Slot, Tid};
+use crate::{NoRoom, Page, Slot, Tid, is_listed};
 use std::alloc::{AllocError, Global};
 
 /// A page on which items of 24 bytes, 0 and up, were put until it was full.
@@ -91,4 +91,11 @@ fn tids_go_by_page_and_then_by_slot(rt: HostRuntime) {
     assert!(rt;
         first < second && first < Tid { page: 0, slot: 10 } && second == Tid { page: 1, slot: 2 }
     );
+}
+
+#[test]
+fn a_tid_is_looked_up_in_a_list_in_order(rt: HostRuntime) {
+    let tids = [Tid { page: 0, slot: 9 }, Tid { page: 1, slot: 2 }];
+    assert!(rt; is_listed(&tids, &tids[0]) && is_listed(&tids, &tids[1]));
+    assert!(rt; !is_listed(&tids, &Tid { page: 0, slot: 2 }) && !is_listed(&[], &tids[0]));
 }

@@ -7,11 +7,11 @@ use Rattle.row_versions.specs.Keys.{names_one_of}
 use Rattle.row_versions.proofs.keys.remove_entries.Goals as goal
 
 pub returns-clause-kept : goal.returns-clause-kept
-returns-clause-kept c = filter_same _ (λ e. not (names_one_of c.args.dead.now e)) _ (λ x b f' k. search rules) _ _ c.retain.ensures.filtered
+returns-clause-kept c = filter_same _ (λ e. not (names_one_of c.args.dead.now e)) _ (λ x b f' k. search (rules, c.requires)) _ _ c.retain.ensures.filtered
 
 pub returns-clause-count : goal.returns-clause-count
 returns-clause-count c =
-    let kept : c.retain.new.self.items ≡ filter (λ e. not (names_one_of c.args.dead.now e)) c.args.entries.now.items = filter_same _ (λ e. not (names_one_of c.args.dead.now e)) _ (λ x b f' k. search rules) _ _ c.retain.ensures.filtered in
+    let kept : c.retain.new.self.items ≡ filter (λ e. not (names_one_of c.args.dead.now e)) c.args.entries.now.items = filter_same _ (λ e. not (names_one_of c.args.dead.now e)) _ (λ x b f' k. search (rules, c.requires)) _ _ c.retain.ensures.filtered in
     omega (
       arith,
       c.len-before.ensures,

@@ -1,13 +1,20 @@
-use Rattle.std.proofs.Common.{◌++◌, sym, ap, ◌∙◌}
+use Rattle.std.proofs.Common.{◌++◌, sym, ap, ◌∙◌, subst}
+use Rattle.std.specs.List.Sorted.{IsSorted}
+use Rattle.slot_page.specs.Tids.{tid_cmp}
 use Rattle.slot_page.specs.Pages.{page_at}
 use Rattle.slot_page.specs.DeadSlots.{dead_tids}
 use Rattle.row_versions.proofs.Entries.{unnamed_after}
-use Rattle.slot_page.proofs.Gathered.{gathered_are, listed_at}
+use Rattle.slot_page.proofs.Gathered.{dead_tids_sorted, gathered_are, listed_at}
 use Rattle.row_versions.proofs.Events.{assigned_pruned, assigned_reaped}
 use Rattle.row_versions.proofs.tests.vacuum.Goals as goal
 
-pub unindex-removed-requires : goal.unindex-removed-requires
-unindex-removed-requires g c =
+pub unindex-removed-requires-clause-sorted : goal.unindex-removed-requires-clause-sorted
+unindex-removed-requires-clause-sorted g c =
+    let slots = page_at c.prune_page.new.self.pages 0 in
+    subst (IsSorted tid_cmp) (sym (c.in_ok-count.ensures.gathered ∙ ap (λ ts. ts ++ dead_tids 0 slots) c.new-dead.ensures)) (dead_tids_sorted 0 slots)
+
+pub unindex-removed-requires-clause-dead : goal.unindex-removed-requires-clause-dead
+unindex-removed-requires-clause-dead g c =
     let pages = c.prune_page.new.self.pages in
     λ t held. gathered_are pages 0 c.prune_page.new.dead t (c.in_ok-count.ensures.gathered ∙ ap (λ ts. ts ++ dead_tids 0 (page_at pages 0)) c.new-dead.ensures) held
 

@@ -1,7 +1,7 @@
 use Rattle.std.proofs.Common.{◌≡◌, sym, not, filter, arith, rules}
 use Rattle.std.proofs.lemmas.Fn.{filter_same}
 use Rattle.chunk_index.specs.declared.entry.Entry.{Entry}
-use Rattle.chunk_index.specs.Entries.{is_listed}
+use Rattle.slot_page.specs.Tids.{is_listed}
 use Rattle.chunk_index.proofs.OneLeaf.{sweep_leaves, sweep_counts}
 use Rattle.chunk_index.proofs.Sound.{sound_entries}
 use Rattle.chunk_index.proofs.index.ChunkIndex.sweep_leaf.Goals as goal

@@ -306,8 +306,18 @@ fn a_compressed_datum_is_named_wherever_it_stands(rt: HostRuntime) -> Result<(),
         // inline, behind two bytes of padding
         (2, &[5, 9, 0, 0, 30, 0, 0, 0, 1, 2, 3], 2),
         // as a pointer to 50 stored bytes of 96
-        (1, &[1, 18, 100, 0, 0, 0, 50, 0, 0, 0, 0, 64, 0, 0, 1, 32, 0, 0], 1),
-        (2, &[5, 9, 1, 18, 100, 0, 0, 0, 50, 0, 0, 0, 0, 64, 0, 0, 1, 32, 0, 0], 2),
+        (
+            1,
+            &[1, 18, 100, 0, 0, 0, 50, 0, 0, 0, 0, 64, 0, 0, 1, 32, 0, 0],
+            1,
+        ),
+        (
+            2,
+            &[
+                5, 9, 1, 18, 100, 0, 0, 0, 50, 0, 0, 0, 0, 64, 0, 0, 1, 32, 0, 0,
+            ],
+            2,
+        ),
     ] {
         let fault = fault_in(rt.alloc(), columns, data)?;
         assert_eq!(rt; fault, TupleFault::Compressed { column });
@@ -315,7 +325,9 @@ fn a_compressed_datum_is_named_wherever_it_stands(rt: HostRuntime) -> Result<(),
     // padding that is not zero, and a pointer cut short
     for data in [
         [5, 9, 0, 1, 30, 0, 0, 0, 1, 2, 3].as_slice(),
-        &[5, 9, 1, 18, 100, 0, 0, 0, 50, 0, 0, 0, 0, 64, 0, 0, 1, 32, 0],
+        &[
+            5, 9, 1, 18, 100, 0, 0, 0, 50, 0, 0, 0, 0, 64, 0, 0, 1, 32, 0,
+        ],
     ] {
         let fault = fault_in(rt.alloc(), 2, data)?;
         assert_eq!(rt; fault, TupleFault::BadColumn { column: 2 });

@@ -117,6 +117,8 @@ fn words_sources_and_sinks_are_refused(rt: HostRuntime) -> Result<(), Fail> {
             Status::Done,
             FIRST_REPLIES,
         ),
+        // a third write would fail, and none is made
+        (&["replay"], 9, 2, 100, Status::Done, FIRST_REPLIES),
         (&[], 0, 9, 100, Status::Usage, ""),
         (&["replay", "x"], 0, 9, 100, Status::Usage, ""),
         (&["run"], 0, 9, 100, Status::Usage, ""),

@@ -196,16 +196,16 @@ fn three_replies(alloc: Global) -> Result<Vec<u8>, AllocError> {
 #[test]
 fn a_hub_answers_turn_by_turn(rt: HostRuntime) -> Result<(), Fail> {
     let Ok(mut hub) = one_session(rt.alloc()) else {
-        return Err(Fail);
+        return Err(Fail::new("no hub"));
     };
     assert!(rt; hub.reply(0).is_none());
     // Each turn's answer, and the number of entries and of replies after it. The insert has its
-    // moment, puts two pieces, and then its version.
+    // moment, which tells its reply, puts two pieces, and then its version.
     for (turn, entries, replies) in [
         (Turn::Ended { entry: 0 }, 1, 1),
-        (Turn::More, 2, 1),
-        (Turn::More, 2, 1),
-        (Turn::More, 2, 1),
+        (Turn::More, 2, 2),
+        (Turn::More, 2, 2),
+        (Turn::More, 2, 2),
         (Turn::Ended { entry: 1 }, 2, 2),
         (Turn::Ended { entry: 2 }, 3, 3),
         (Turn::Nothing, 3, 3),

@@ -1,10 +1,7 @@
--- The steps of the loops on pages, and where a put ends.
-use Rattle.std.proofs.Common.{ℕ, ◌≡◌, ◌<◌, ◌≤◌, ◌+◌, Bool, true, false, List, [], ◌∷◌, ◌++◌, length, get_or, slice_set, take, drop, map, count_by, refl, sym, ap, ◌∙◌, arith, cond}
+-- Where a put ends.
+use Rattle.std.proofs.Common.{ℕ, ◌≡◌, ◌<◌, true, false, List, [], ◌∷◌, ◌++◌, length, get_or, slice_set, refl, sym, ap, ◌∙◌, arith}
 use Rattle.std.proofs.lemmas.Bool.{lt-ltb, le-ltb}
-use Rattle.std.proofs.lemmas.List.{get_or_past, get_or_default, get_or_at, drop_more, length-append, length-map, length-take-le, length-drop}
-use Rattle.std.proofs.lemmas.List.Edits.{map_over_more}
-use mir.Val.{bool_byte}
-use Rattle.std.proofs.lemmas.List.Sums.{sum_by_more}
+use Rattle.std.proofs.lemmas.List.{get_or_past, get_or_default}
 use Rattle.slot_page.specs.declared.line.LinePointer.{LinePointer}
 use Rattle.slot_page.specs.Slots.{fits, first_unused, with_put}
 use Rattle.slot_page.specs.Pages.{page_at, fit_page, put_tid, with_put_on}
@@ -45,26 +42,3 @@ put_after_all size item pages after new full is added = rw (added, is, none_foun
 
 pub tid_after_all : {T : Type 0} (size n : ℕ) (pages : List (List (LinePointer T))) → n ≡ length pages → ((k : ℕ) → k < length pages → fits size (page_at pages k) ≡ false) → record { page = n; slot = 0 } ≡ put_tid size pages
 tid_after_all size n pages is full = tid_same _ _ (is ∙ sym (none_found size pages full)) (sym (ap first_unused (ap (λ page. page_at pages page) (none_found size pages full) ∙ get_or_past pages (length pages) [] (omega arith))))
-
--- a slot that a loop which maps in place has not reached is as it was
-pub unreached : {X : Type 0} (f : X → X) (xs ys : List X) (i : ℕ) (d : X) → i < length xs → ys ≡ map f (take i xs) ++ drop i xs → get_or ys i d ≡ get_or xs i d
-unreached f xs ys i d within so_far = rw (so_far, drop_more xs i d within) (get_or_at (map f (take i xs)) (get_or xs i d) (drop (i + 1) xs) d i (length-map (take i xs) f ∙ length-take-le i xs (omega arith)))
-
--- and one step on
-pub mapped_more : {X : Type 0} (f : X → X) (xs ys after : List X) (i : ℕ) (d : X) → i < length xs → ys ≡ map f (take i xs) ++ drop i xs → after ≡ slice_set ys i (f (get_or ys i d)) → after ≡ map f (take (i + 1) xs) ++ drop (i + 1) xs
-mapped_more f xs ys after i d within so_far is =
-    let same : length ys ≡ length xs = rw so_far (length-append (map f (take i xs)) (drop i xs) ∙ omega (arith, length-map (take i xs) f, length-take-le i xs (omega arith), length-drop i xs)) in
-    is ∙ map_over_more f xs ys i (get_or ys i d) within so_far (get_or_default ys i d (get_or ys i d) (omega (arith, within, same)))
-
--- a truth as a number
-pub byte_is : (b : Bool) → bool_byte b ≡ cond b 1 0
-byte_is true = refl
-byte_is false = refl
-
--- one more element, which a test passes or not, in a count
-pub counted_more : {X : Type 0} (p : X → Bool) (xs : List X) (i n step : ℕ) (d x : X) (b : Bool) → i < length xs → n ≡ count_by p (take i xs) → x ≡ get_or xs i d → b ≡ p x → step ≡ bool_byte b → n + step ≡ count_by p (take (i + 1) xs)
-counted_more p xs i n step d x b within so_far at is by = rw (so_far, by, byte_is b, is, at) (sym (sum_by_more (λ y. cond (p y) 1 0) xs i d within))
-
-pub one_at_most : (b : Bool) (n i step : ℕ) → n ≤ i → step ≡ bool_byte b → n + step ≤ i + 1
-one_at_most true n i step few by = omega (arith, by)
-one_at_most false n i step few by = omega (arith, by)

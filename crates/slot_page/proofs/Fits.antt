@@ -6,9 +6,10 @@ use Rattle.std.proofs.lemmas.Bool.Decides.{nat_tests}
 use Rattle.std.proofs.lemmas.List.{set_past}
 use Rattle.std.proofs.lemmas.List.Sums.{sum_by-set, sum_by_push, passes_at_first}
 use Rattle.slot_page.specs.declared.line.LinePointer.{LinePointer}
-use Rattle.slot_page.specs.declared.line.LinePointer.TheVariants.{Normal, Dead, Unused}
+use Rattle.slot_page.specs.declared.line.LinePointer.TheVariants.{Normal, Unused}
 use Rattle.slot_page.specs.Slots.{is_unused, slot_at, rounded, taken, room, first_unused, has_unused, fits, with_put, most_slots, pointer_size}
-use Rattle.chunk_relation.specs.Relations.{class_of}
+use Rattle.slot_page.specs.Marks.{class_of}
+use Rattle.slot_page.proofs.Rooms.{unused_takes}
 
 -- sizes of one class fit on the same pages
 pub fits_class : {T : Type 0} (size other : ℕ) (slots : List (LinePointer T)) → class_of other ≡ class_of size → fits other slots ≡ fits size slots
@@ -43,11 +44,6 @@ fits_new size slots none few enough = of_tests (has_unused slots) (length slots)
     of_tests : (unused : Bool) (n left need : ℕ) → unused ≡ false → n < most_slots → need + 4 ≤ left → ((unused || nat_lt n most_slots) && nat_le (cond unused need (need + 4)) left) ≡ true
     of_tests true n left need f few' enough' = absurd (cc)
     of_tests false n left need f few' enough' = grind (arith, nat_tests)
-
-unused_takes : {T : Type 0} (line : LinePointer T) → is_unused line ≡ true → taken line ≡ 0
-unused_takes (Normal size item) e = absurd (cc)
-unused_takes Dead e = refl
-unused_takes Unused e = refl
 
 -- an item that fits beside another one that was put fits without it
 pub fits_without : {T : Type 0} (size other : ℕ) (item : T) (slots : List (LinePointer T)) → 24 ≤ size → fits size slots ≡ true → fits other (with_put size item slots) ≡ true → fits other slots ≡ true

@@ -1,0 +1,16 @@
+//! The transactions that the log tells, each with its changes, in the order of their commits: values
+//! that were logged as chunks are put together again.
+//!
+//! Source: the PostgreSQL 17 documentation, "Logical Decoding"; the chunks are put together as by
+//! `ReorderBufferToastReplace` of reorderbuffer.c.
+#![tactic(auto)]
+
+mod fault;
+mod gathered;
+mod row;
+mod transaction;
+
+pub use change_log::{Log, LogEntry};
+pub use fault::DecodeFault;
+pub use stream_wire::Message;
+pub use transaction::{MessageList, Transaction, TransactionList};

@@ -1,4 +1,6 @@
 pub mod Columns
+pub mod Firsts
 pub mod Lists
+pub mod Opens
 pub mod Results
 pub mod Tables

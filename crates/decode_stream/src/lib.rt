@@ -5,12 +5,16 @@
 //! `ReorderBufferToastReplace` of reorderbuffer.c.
 #![tactic(auto)]
 
+mod decoder;
 mod fault;
 mod gathered;
+mod open;
 mod row;
+mod table;
 mod transaction;
 
 pub use change_log::{Log, LogEntry};
+pub use decoder::Decoder;
 pub use fault::DecodeFault;
 pub use stream_wire::Message;
 pub use transaction::{MessageList, Transaction, TransactionList};

@@ -151,7 +151,7 @@ fn fill(columns: &mut SentList, values: &mut Values, table: u16, cells: &[Cell])
 
 /// What is sent of a row's cells, by the values that were gathered, which are taken. Where it is
 /// refused or there is no memory, they stay.
-fn columns_of(
+pub(crate) fn columns_of(
     alloc: Global,
     values: &mut Values,
     table: u16,

@@ -4,3 +4,4 @@ pub mod Lists
 pub mod Opens
 pub mod Results
 pub mod Tables
+pub mod Wholes

@@ -1,5 +1,5 @@
 -- Lists with one item more, and what stands at a place of a list.
-use Rattle.std.proofs.Common.{◌≡◌, ℕ, ◌+◌, ◌<◌, Bool, true, false, cond, not, List, [], ◌∷◌, ◌++◌, Option, Some, None, length, take, drop, slice_index_or, slice_set, reverse, filter_map, map, refl, sym, ap, ◌∙◌, append_assoc, add-one, drop-cons, arith, zero, suc}
+use Rattle.std.proofs.Common.{◌≡◌, ℕ, ◌+◌, ◌<◌, Bool, true, false, cond, not, List, [], ◌∷◌, ◌++◌, Option, Some, None, length, take, drop, slice_get, slice_index_or, slice_set, reverse, filter_map, map, refl, sym, ap, ◌∙◌, append_assoc, add-one, drop-cons, arith, zero, suc}
 use Rattle.std.specs.List.{cons_option, take_while}
 use Rattle.std.proofs.Math.Seq.{take-suc}
 use Rattle.std.proofs.lemmas.List.{append-nil, reverse-append, take-append-drop}
@@ -42,6 +42,28 @@ module _ {X : Type 0} where
 
   pub split_at : (xs : List X) (i : ℕ) (x : X) → i < length xs → x ≡ slice_index_or xs i x → xs ≡ take i xs ++ x ∷ drop (i + 1) xs
   split_at xs i x low e = sym (take-append-drop i xs) ∙ ap (λ (rest : List X). take i xs ++ rest) (drop_is xs i x low e)
+
+  -- the same of an item that a look-up finds
+  pub found_within : (xs : List X) (i : ℕ) → i < length xs → None ≡ slice_get xs i → ⊥
+  found_within [] i low e = omega (arith, low)
+  found_within (x ∷ xs) zero low e = cc
+  found_within (x ∷ xs) (suc i) low e = found_within xs i (omega (arith, low)) e
+
+  found_after : (xs : List X) (i : ℕ) (x : X) → Some x ≡ slice_get xs i → take (suc i) xs ≡ take i xs ++ x ∷ []
+  found_after [] i x e = absurd (cc)
+  found_after (y ∷ ys) zero x e = ap (λ (z : X). z ∷ []) (cc)
+  found_after (y ∷ ys) (suc i) x e = ap (λ (rest : List X). y ∷ rest) (found_after ys i x e)
+
+  found_before : (xs : List X) (i : ℕ) (x : X) → Some x ≡ slice_get xs i → xs ≡ take i xs ++ x ∷ drop (suc i) xs
+  found_before [] i x e = absurd (cc)
+  found_before (y ∷ ys) zero x e = ap (λ (z : X). z ∷ ys) (cc)
+  found_before (y ∷ ys) (suc i) x e = ap (λ (rest : List X). y ∷ rest) (found_before ys i x e)
+
+  pub take_found : (xs : List X) (i : ℕ) (x : X) → Some x ≡ slice_get xs i → take (i + 1) xs ≡ take i xs ++ x ∷ []
+  take_found xs i x e = rw add-one (found_after xs i x e)
+
+  pub split_found : (xs : List X) (i : ℕ) (x : X) → Some x ≡ slice_get xs i → xs ≡ take i xs ++ x ∷ drop (i + 1) xs
+  split_found xs i x e = found_before xs i x e ∙ ap (λ (n : ℕ). take i xs ++ x ∷ drop n xs) (sym (add-one i))
 
   -- a write at the place behind a part
   pub set_behind : (xs : List X) (y z : X) (rest : List X) (i : ℕ) → length xs ≡ i → slice_set (xs ++ y ∷ rest) i z ≡ xs ++ z ∷ rest

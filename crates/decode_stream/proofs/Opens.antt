@@ -105,13 +105,16 @@ open_change old new e m change made more none own is = record {
 
 module _ (log : List LogEntry) (e : LogEntry) where
   -- the values gathered for a transaction are those of its entries
-  found_is : (o : Option OpenState) (own : List LogEntry) → IsOpenAt o own → (table value_id : ℕ) → found_of o table value_id ≡ gathered own table value_id
-  found_is None own none table value_id = open_none.values table value_id ∙ ap (λ (l : List LogEntry). gathered l table value_id) (sym none)
-  found_is (Some state) own is table value_id = is.values table value_id
+  found_at : (o : Option OpenState) (own : List LogEntry) → IsOpenAt o own → (table value_id : ℕ) → found_of o table value_id ≡ gathered own table value_id
+  found_at None own none table value_id = open_none.values table value_id ∙ ap (λ (l : List LogEntry). gathered l table value_id) (sym none)
+  found_at (Some state) own is table value_id = is.values table value_id
+
+  pub found_is : (table : OpenList) → AreOpen table log → (t v : ℕ) → found_of (open_at table (xid_of e)) t v ≡ gathered (open_entries (xid_of e) log) t v
+  found_is table are = found_at (open_at table (xid_of e)) (open_entries (xid_of e) log) (are (xid_of e))
 
   -- so an entry's fault after the log is its fault after these
   pub fault_is : (table : OpenList) → AreOpen table log → fault_of (found_of (open_at table (xid_of e))) e ≡ fault_at (log, e)
-  fault_is table are = λ i. fault_of (λ t v. found_is (open_at table (xid_of e)) (open_entries (xid_of e) log) (are (xid_of e)) t v i) e
+  fault_is table are = λ i. fault_of (λ t v. found_is table are t v i) e
 
   -- ending a transaction gives the changes of its entries
   pub ended_is : (o : Option OpenState) (own : List LogEntry) → IsOpenAt o own → ended o ≡ unless_none (changes_of own)

@@ -11,7 +11,7 @@ use Rattle.stream_wire.specs.declared.message.Message.{Message}
 use Rattle.decode_stream.specs.declared.fault.DecodeFault.{DecodeFault}
 use Rattle.decode_stream.specs.declared.fault.DecodeFault.TheVariants.{Memory}
 use Rattle.decode_stream.specs.declared.gathered.ValueName.{ValueName}
-use Rattle.decode_stream.specs.Decoding.{TransactionState, GatheredValue, Found, unless_none, gathered, open_entries, changes_of, count_of, first_fault, commits, commit_at, numbered, decode}
+use Rattle.decode_stream.specs.Decoding.{TransactionState, GatheredValue, Found, xid_of, unless_none, gathered, open_entries, changes_of, count_of, first_fault, commits, commit_at, numbered, decode}
 
 -- the values that are gathered, by their names
 abbrev pub Values : Type 0
@@ -139,3 +139,20 @@ abbrev pub Stays : {X : Type 0} → DecoderState → DecoderState → Result X D
 Stays old new (Ok x) = Unit {0}
 Stays old new (Err Memory) = new ≡ old
 Stays old new (Err fault) = Unit {0}
+
+-- the entries of a log can be decoded, and give fewer than 2 ^ 32 - 1 transactions
+pub record IsDecodable (log : List LogEntry) : Type 0 where
+  pub count : length (commits log) + 1 < 2 ^ 32
+  pub fits : (before : List LogEntry) (e : LogEntry) (rest : List LogEntry) → log ≡ before ++ e ∷ rest → first_fault before ≡ None → Fits (gathered (open_entries (xid_of e) before)) e
+
+-- what decoding a log answers: its transactions, or its first fault
+abbrev pub IsDecoded : List LogEntry → Result (List TransactionState) DecodeFault → Type 0
+IsDecoded log (Ok sent) = decode log ≡ Ok sent
+IsDecoded log (Err Memory) = Unit {0}
+IsDecoded log (Err fault) = decode log ≡ Err fault
+
+-- a decoder was fed a log without a fault, and these are its transactions
+pub record IsSent (state : DecoderState) (transactions : List TransactionState) (log : List LogEntry) : Type 0 where
+  pub decodes : Decodes state log
+  pub sound : first_fault log ≡ None
+  pub sent : transactions ≡ numbered 1 (commits log)

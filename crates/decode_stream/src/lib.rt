@@ -12,9 +12,11 @@ mod open;
 mod row;
 mod table;
 mod transaction;
+mod whole;
 
 pub use change_log::{Log, LogEntry};
 pub use decoder::Decoder;
 pub use fault::DecodeFault;
 pub use stream_wire::Message;
 pub use transaction::{MessageList, Transaction, TransactionList};
+pub use whole::decode_log;

@@ -1,3 +1,4 @@
+pub mod Bounds
 pub mod Columns
 pub mod Firsts
 pub mod Lists

@@ -20,3 +20,6 @@ pub use fault::DecodeFault;
 pub use stream_wire::Message;
 pub use transaction::{MessageList, Transaction, TransactionList};
 pub use whole::decode_log;
+
+#[cfg(test)]
+mod tests;

@@ -1,12 +1,12 @@
 -- A log of few entries and bytes, each entry within its ranges, can be decoded.
-use Rattle.std.proofs.Common.{eqb, ◌≡◌, ◌≤◌, ◌<◌, ◌^◌, ℕ, ◌+◌, Bool, true, false, cond, not, List, [], ◌∷◌, ◌++◌, Option, Some, None, length, reverse, filter, filter_map, flat_map, sum_by, is_none, slice_index_or, refl, sym, ap, subst, ◌∙◌, arith, zero, suc}
+use Rattle.std.proofs.Common.{eqb, ◌≡◌, ◌≤◌, ◌<◌, ◌^◌, ℕ, ◌+◌, Bool, true, false, cond, not, List, [], ◌∷◌, ◌++◌, Option, Some, None, length, reverse, filter, filter_map, sum_by, is_none, refl, ap, subst, ◌∙◌, arith, suc}
 use Rattle.std.specs.List.{All, cons_option, take_while, prefix_len}
 use Rattle.std.proofs.lemmas.List.{length-append, length-take, reverse-append}
 use Rattle.std.proofs.lemmas.List.Sums.{sum_by-append, sum_by-cons, sum_by-take-le}
 use Rattle.std.proofs.lemmas.List.Concat.{length-flat_map}
 use Rattle.change_log.specs.declared.entry.LogEntry.{LogEntry}
 use Rattle.change_log.specs.declared.entry.LogEntry.TheVariants.{Chunk, Insert, Update, Delete, Commit, Abort}
-use Rattle.decode_stream.specs.Decoding.{GatheredValue, Found, xid_of, is_end, is_change, is_chunk_of, chunk_bytes, fronts_after, with_fronts, behind_last, open_entries, value_of, gathered, fault_at, commit_at, commits}
+use Rattle.decode_stream.specs.Decoding.{xid_of, is_end, is_change, is_chunk_of, chunk_bytes, fronts_after, with_fronts, behind_last, open_entries, value_of, gathered, fault_at, commit_at, commits}
 use Rattle.std.proofs.lemmas.List.Elements.{All-cons, All-nil}
 use Rattle.decode_stream.specs.States.{DecoderState, Decodes, Fits, HasRoom, IsDecodable, found_of, open_at}
 use Rattle.decode_stream.proofs.Wholes.{fits_next, sent_nothing}
@@ -44,10 +44,13 @@ weight e = length (chunk_bytes e)
 chunk_weight : (w : LogEntry → ℕ) (xid table value_id : ℕ) (log : List LogEntry) → sum_by w (filter (is_chunk_of table value_id) (behind_last is_change (open_entries xid log))) ≤ sum_by w log
 unfolding open_entries
 chunk_weight w xid table value_id log =
-    omega (arith, filtered_weight w (is_chunk_of table value_id) (behind_last is_change (behind_last is_end (filter (λ entry. eqb (xid_of entry) xid) log))),
-    behind_weight w is_change (behind_last is_end (filter (λ entry. eqb (xid_of entry) xid) log)),
-    behind_weight w is_end (filter (λ entry. eqb (xid_of entry) xid) log),
-    filtered_weight w (λ entry. eqb (xid_of entry) xid) log)
+    omega (
+      arith,
+      filtered_weight w (is_chunk_of table value_id) (behind_last is_change (behind_last is_end (filter (λ entry. eqb (xid_of entry) xid) log))),
+      behind_weight w is_change (behind_last is_end (filter (λ entry. eqb (xid_of entry) xid) log)),
+      behind_weight w is_end (filter (λ entry. eqb (xid_of entry) xid) log),
+      filtered_weight w (λ entry. eqb (xid_of entry) xid) log,
+    )
 
 room : (chunks : List LogEntry) (bytes : List ℕ) → length chunks + 1 < 2 ^ 32 → sum_by weight chunks + length bytes < 2 ^ 32 → HasRoom (value_of chunks) bytes
 room [] bytes few short = omega arith
@@ -100,7 +103,7 @@ has_room log before e rest few short is table value_id bytes within =
 pub decodable : (log : List LogEntry) → length log + 1 < 2 ^ 32 → sum_by weight log < 2 ^ 32 → All IsRanged log → IsDecodable log
 decodable log few short ranged = record {
   count = omega (arith, few_commits log);
-  fits = λ before e rest is sound. fits_ranged (open_entries (xid_of e) before) e (all_middle IsRanged before e rest (subst (All IsRanged) is ranged)) (has_room log before e rest few short is)
+  fits = λ before e rest is sound. fits_ranged (open_entries (xid_of e) before) e (all_middle IsRanged before e rest (subst (All IsRanged) is ranged)) (has_room log before e rest few short is);
 }
 
 -- a decoder's first entry

@@ -1,10 +1,10 @@
 -- The columns of a row, cell by cell.
-use Rattle.std.proofs.Common.{◌<◌, append_assoc, ◌≡◌, ◌≢◌, ◌≤◌, ℕ, ◌+◌, Bool, true, false, cond, ◌==◌, ◌&&◌, ◌||◌, eq-eqb, List, [], ◌∷◌, ◌++◌, Option, Some, None, length, take, drop, map, filter_map, slice_set, refl, sym, ap, subst, ◌∙◌, if◌then◌else◌, nat_eq, arith, zero, suc}
+use Rattle.std.proofs.Common.{append_assoc, ◌≡◌, ◌≤◌, ℕ, Bool, true, false, cond, ◌==◌, ◌&&◌, ◌||◌, eq-eqb, List, [], ◌∷◌, ◌++◌, Option, Some, None, length, map, filter_map, slice_set, refl, sym, ap, ◌∙◌, if◌then◌else◌, arith, suc}
 use Rattle.std.specs.List.{list_any, cons_option, All}
 use Rattle.std.proofs.lemmas.Bool.{eqb-true}
 use Rattle.std.proofs.lemmas.List.{map-append, length-map}
 use Rattle.std.proofs.lemmas.List.Folds.{list_any-append}
-use Rattle.std.proofs.lemmas.List.Elements.{All-map, All-cons, All-nil}
+use Rattle.std.proofs.lemmas.List.Elements.{All-cons, All-nil}
 use Rattle.tuple_layout.specs.declared.cell.Cell.{Cell}
 use Rattle.tuple_layout.specs.declared.cell.Cell.TheVariants as cells
 use Rattle.stream_wire.specs.Spelling.{AreColumns, IsShort}

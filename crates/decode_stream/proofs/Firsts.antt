@@ -1,5 +1,5 @@
 -- What a log with one entry more decodes to.
-use Rattle.std.proofs.Common.{◌≡◌, ℕ, ◌+◌, Bool, true, false, cond, List, [], ◌∷◌, ◌++◌, Option, Some, None, Ok, Err, length, filter_map, is_none, refl, sym, ap, subst, ◌∙◌}
+use Rattle.std.proofs.Common.{◌≡◌, ℕ, ◌+◌, Bool, cond, List, [], ◌∷◌, ◌++◌, Option, Some, None, Ok, Err, length, filter_map, is_none, refl, sym, ap, subst, ◌∙◌}
 use Rattle.std.specs.List.{cons_option, take_while}
 use Rattle.std.proofs.lemmas.List.{append-nil, length-append}
 use Rattle.std.proofs.lemmas.List.Elements.{filter_map-append}
@@ -9,7 +9,7 @@ use Rattle.change_log.specs.declared.entry.LogEntry.{LogEntry}
 use Rattle.decode_stream.specs.declared.fault.DecodeFault.{DecodeFault}
 use Rattle.decode_stream.specs.declared.fault.DecodeFault.TheVariants.{ChunkOrder, SizeOf, Memory}
 use Rattle.decode_stream.specs.Decoding.{first, with_fronts, behind_last, open_entries, fault_at, commit_at, first_fault, commits}
-use Rattle.decode_stream.specs.States.{DecoderState, Decodes, OpenList, IsOpenAt, open_at, AreOpen, Feeds, Stays, Tells, given_after, lasting, next_of}
+use Rattle.decode_stream.specs.States.{DecoderState, Decodes, OpenList, IsOpenAt, open_at, AreOpen, Feeds, Tells, given_after, lasting, next_of}
 use Rattle.decode_stream.proofs.Lists.{with_fronts-push}
 
 module _ {X Y : Type 0} (f : X → Option Y) where
@@ -113,23 +113,28 @@ module _ (log : List LogEntry) (e : LogEntry) where
       → answer ≡ next_of old.given (commit_at (log, e)) → Feeds log e new (Ok answer)
   fed old new answer is none here kept given are same =
       let before : first_fault log ≡ None = sym is.fault ∙ none in
-      let now : first_fault (log ++ e ∷ []) ≡ None = fault_next before ∙ here in
-      (now, same ∙ ap (λ (n : ℕ). next_of n (commit_at (log, e))) is.given, record {
-        fault = kept ∙ sym now;
-        given = given ∙ count_more (commit_at (log, e)) old.given (commits log) is.given ∙ ap length (sym (commits_more before here));
-        table = λ h. are
-      })
+      let now : first_fault (log ++ e ∷ []) ≡ None = fault_next before ∙ here in (
+        now,
+        same ∙ ap (λ (n : ℕ). next_of n (commit_at (log, e))) is.given,
+        record {
+          fault = kept ∙ sym now;
+          given = given ∙ count_more (commit_at (log, e)) old.given (commits log) is.given ∙ ap length (sym (commits_more before here));
+          table = λ h. are;
+        },
+      )
 
   -- an entry with the first fault
   refused : (old new : DecoderState) (f : DecodeFault) → Decodes old log → old.fault ≡ None → fault_at (log, e) ≡ Some f → new.fault ≡ Some f → new.given ≡ old.given → (first_fault (log ++ e ∷ []) ≡ Some f) × Decodes new (log ++ e ∷ [])
   refused old new f is none here kept given =
       let before : first_fault log ≡ None = sym is.fault ∙ none in
-      let now : first_fault (log ++ e ∷ []) ≡ Some f = fault_next before ∙ here in
-      (now, record {
-        fault = kept ∙ sym now;
-        given = given ∙ is.given ∙ ap length (sym (commits_stay f before here));
-        table = λ h. absurd (some_none f (sym now ∙ h))
-      })
+      let now : first_fault (log ++ e ∷ []) ≡ Some f = fault_next before ∙ here in (
+        now,
+        record {
+          fault = kept ∙ sym now;
+          given = given ∙ is.given ∙ ap length (sym (commits_stay f before here));
+          table = λ h. absurd (some_none f (sym now ∙ h));
+        },
+      )
     where
       some_none : (f : DecodeFault) → Some f ≡ None → ⊥
       some_none f h = cc
@@ -138,12 +143,14 @@ module _ (log : List LogEntry) (e : LogEntry) where
   again : (old : DecoderState) (f : DecodeFault) → Decodes old log → old.fault ≡ Some f → (first_fault (log ++ e ∷ []) ≡ Some f) × Decodes old (log ++ e ∷ [])
   again old f is some =
       let before : first_fault log ≡ Some f = sym is.fault ∙ some in
-      let now : first_fault (log ++ e ∷ []) ≡ Some f = fault_stays f before in
-      (now, record {
-        fault = some ∙ sym now;
-        given = is.given ∙ ap length (sym (commits_after f before));
-        table = λ h. absurd (some_none f (sym now ∙ h))
-      })
+      let now : first_fault (log ++ e ∷ []) ≡ Some f = fault_stays f before in (
+        now,
+        record {
+          fault = some ∙ sym now;
+          given = is.given ∙ ap length (sym (commits_after f before));
+          table = λ h. absurd (some_none f (sym now ∙ h));
+        },
+      )
     where
       some_none : (f : DecodeFault) → Some f ≡ None → ⊥
       some_none f h = cc
@@ -164,5 +171,5 @@ unfolding first_fault commits with_fronts open_entries behind_last
 fed_nothing state table given fault = record {
   fault = fault;
   given = given;
-  table = λ h xid. subst (λ (t : OpenList). IsOpenAt (open_at t xid) (open_entries xid [])) (sym table) refl
+  table = λ h xid. subst (λ (t : OpenList). IsOpenAt (open_at t xid) (open_entries xid [])) (sym table) refl;
 }

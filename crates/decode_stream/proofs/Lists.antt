@@ -1,5 +1,5 @@
 -- Lists with one item more, and what stands at a place of a list.
-use Rattle.std.proofs.Common.{◌≡◌, ℕ, ◌+◌, ◌<◌, Bool, true, false, cond, not, List, [], ◌∷◌, ◌++◌, Option, Some, None, length, take, drop, slice_get, slice_index_or, slice_set, reverse, filter_map, map, refl, sym, ap, ◌∙◌, append_assoc, add-one, drop-cons, arith, zero, suc}
+use Rattle.std.proofs.Common.{◌≡◌, ℕ, ◌+◌, ◌<◌, Bool, true, false, cond, not, List, [], ◌∷◌, ◌++◌, Option, Some, None, length, take, drop, slice_get, slice_index_or, slice_set, reverse, filter_map, refl, sym, ap, ◌∙◌, append_assoc, add-one, drop-cons, arith, zero, suc}
 use Rattle.std.specs.List.{cons_option, take_while}
 use Rattle.std.proofs.Math.Seq.{take-suc}
 use Rattle.std.proofs.lemmas.List.{append-nil, reverse-append, take-append-drop}
@@ -27,8 +27,10 @@ module _ {X : Type 0} where
     where
       fails : X → Bool
       fails x = not (test x)
+
       kept : List X
       kept = take_while (λ x. not (test x)) (reverse xs)
+
       by : (b : Bool) → reverse (cond (not b) (y ∷ take_while (λ x. not (test x)) (reverse xs)) []) ≡ cond b [] (reverse (take_while (λ x. not (test x)) (reverse xs)) ++ y ∷ [])
       by true = refl
       by false = reverse-append (y ∷ []) (take_while (λ x. not (test x)) (reverse xs))

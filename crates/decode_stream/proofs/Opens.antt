@@ -1,5 +1,5 @@
 -- What one entry more makes of a transaction, and of all that are open.
-use Rattle.std.proofs.Common.{arith, append_assoc, zero, suc, ◌≡◌, ℕ, ◌+◌, Bool, true, false, cond, ◌==◌, ◌&&◌, nat_eq, List, [], ◌∷◌, ◌++◌, Option, Some, None, length, filter, filter_map, flat_map, refl, sym, ap, subst, ◌∙◌}
+use Rattle.std.proofs.Common.{arith, append_assoc, suc, ◌≡◌, ℕ, ◌+◌, Bool, true, false, cond, ◌==◌, ◌&&◌, nat_eq, List, [], ◌∷◌, ◌++◌, Option, Some, None, length, filter, filter_map, flat_map, refl, sym, ap, subst, ◌∙◌}
 use Rattle.std.specs.List.{cons_option}
 use Rattle.std.specs.Map.{lookup}
 use Rattle.std.proofs.lemmas.Bool.{eqb-true}
@@ -21,6 +21,7 @@ open_entries-push xid log e = ap (behind_last is_end) (filter-append own log (e 
   where
     own : LogEntry → Bool
     own entry = xid_of entry == xid
+
     by : (b : Bool) → behind_last is_end (filter (λ entry. xid_of entry == xid) log ++ cond b (e ∷ []) []) ≡ cond b (cond (is_end e) [] (behind_last is_end (filter (λ entry. xid_of entry == xid) log) ++ e ∷ [])) (behind_last is_end (filter (λ entry. xid_of entry == xid) log))
     by true = behind_last-push is_end (filter (λ entry. xid_of entry == xid) log) e
     by false = ap (behind_last is_end) (append-nil (filter (λ entry. xid_of entry == xid) log))
@@ -39,6 +40,7 @@ value_more (c ∷ cs) e = λ i. Some (record { chunks = count i; bytes = joined 
   where
     count : suc (length (cs ++ e ∷ [])) ≡ suc (length cs) + 1
     count = omega (arith, length-append cs (e ∷ []))
+
     joined : chunk_bytes c ++ flat_map chunk_bytes (cs ++ e ∷ []) ≡ (chunk_bytes c ++ flat_map chunk_bytes cs) ++ chunk_bytes e
     joined = ap (λ (bytes : List ℕ). chunk_bytes c ++ bytes) (flat_map-append chunk_bytes cs (e ∷ []) ∙ ap (λ (bytes : List ℕ). flat_map chunk_bytes cs ++ bytes) (append-nil (chunk_bytes e))) ∙ sym (append_assoc (chunk_bytes c) (flat_map chunk_bytes cs) (chunk_bytes e))
 
@@ -89,7 +91,7 @@ open_chunk old new xid t v seq bytes same more own is = record {
       more (value_name table value_id)
       ∙ ap (λ (o : Option GatheredValue). cond ((t == table) && (v == value_id)) (Some (more_of (found_in old.values t v) bytes)) o) (is.values table value_id)
       ∙ cond_same ((t == table) && (v == value_id)) _ _ _ (λ h. ap (λ (o : Option GatheredValue). Some (more_of o bytes)) (is.values t v ∙ same_value (gathered own) t v table value_id h))
-      ∙ sym (gathered-chunk own xid t v seq bytes table value_id)
+      ∙ sym (gathered-chunk own xid t v seq bytes table value_id);
 }
 
 -- a transaction that has made a change more
@@ -97,10 +99,10 @@ pub open_change : (old new : OpenState) (e : LogEntry) (m : Message) → is_chan
     → (own : List LogEntry) → IsOpen old own → IsOpen new (own ++ e ∷ [])
 open_change old new e m change made more none own is = record {
   changes =
-    more ∙ ap (λ (before : List Message). before ++ m ∷ []) is.changes
-    ∙ ap (λ (o : Option Message). changes_of own ++ cons_option o []) (sym made ∙ (λ i. change_of (λ table value_id. is.values table value_id i) e))
-    ∙ sym (changes_of-push own e);
-  values = λ table value_id. ap (λ (values : Values). found_in values table value_id) none ∙ sym (gathered-change own e change table value_id)
+      more ∙ ap (λ (before : List Message). before ++ m ∷ []) is.changes
+      ∙ ap (λ (o : Option Message). changes_of own ++ cons_option o []) (sym made ∙ (λ i. change_of (λ table value_id. is.values table value_id i) e))
+      ∙ sym (changes_of-push own e);
+  values = λ table value_id. ap (λ (values : Values). found_in values table value_id) none ∙ sym (gathered-change own e change table value_id);
 }
 
 module _ (log : List LogEntry) (e : LogEntry) where

@@ -1,5 +1,5 @@
 -- Tables as lists of entries.
-use Rattle.std.proofs.Common.{◌≡◌, Bool, true, false, cond, List, [], ◌∷◌, Option, Some, None, refl, sym, ap, ◌∙◌}
+use Rattle.std.proofs.Common.{◌≡◌, Bool, true, false, cond, List, [], ◌∷◌, Some, refl, ap}
 use Rattle.std.specs.Map.{lookup, set_value}
 
 module _ {K X : Type 0} (test : K → Bool) where

@@ -6,7 +6,7 @@ use Rattle.stream_wire.specs.declared.message.Message.{Message}
 use Rattle.change_log.specs.declared.entry.LogEntry.{LogEntry}
 use Rattle.decode_stream.specs.declared.fault.DecodeFault.{DecodeFault}
 use Rattle.decode_stream.specs.declared.fault.DecodeFault.TheVariants.{ChunkOrder, SizeOf, Memory}
-use Rattle.decode_stream.specs.Decoding.{TransactionState, fault_at, commit_at, first_fault, commits, numbered, decoded, decode, with_fronts, xid_of, Found}
+use Rattle.decode_stream.specs.Decoding.{TransactionState, fault_at, commit_at, first_fault, commits, numbered, decoded, with_fronts, xid_of, Found}
 use Rattle.decode_stream.specs.States.{DecoderState, Decodes, Feeds, IsSent, IsDecodable, IsDecoded, Tells, Fits, found_of, open_at, next_of}
 use Rattle.decode_stream.proofs.Opens.{found_is}
 use Rattle.decode_stream.proofs.Firsts.{fault_next, fault_stays, commits_more, commits_stay, commits_after}
@@ -24,6 +24,7 @@ numbered-push n (x ∷ xs) o =
   where
     made : ℕ → List Message → TransactionState
     made number changes = record { number = number; changes = changes }
+
     shifted : n + 1 + length xs ≡ n + suc (length xs)
     shifted = omega arith
 
@@ -65,7 +66,7 @@ module _ (log : List LogEntry) (e : LogEntry) where
       record {
         decodes = fed.2;
         sound = fed.0;
-        sent = more ∙ (λ i. is.sent i ++ cons_option (fed.1 i) []) ∙ sym (numbered_more (commits log) (commit_at (log, e))) ∙ ap (numbered 1) (sym (commits_more log e is.sound here))
+        sent = more ∙ (λ i. is.sent i ++ cons_option (fed.1 i) []) ∙ sym (numbered_more (commits log) (commit_at (log, e))) ∙ ap (numbered 1) (sym (commits_more log e is.sound here));
       }
 
   -- a fault that is answered is the first

@@ -1,5 +1,5 @@
 -- The transactions that a log decodes to. PostgreSQL documentation, "Logical Decoding Concepts"; values are put together as in reorderbuffer.c.
-use Rattle.std.specs.Prelude.{◌≡◌, ℕ, ◌+◌, ℤ, Bool, true, false, not, ◌&&◌, ◌==◌, if◌then◌else◌, List, [], ◌∷◌, ◌++◌, map, reverse, length, slice_get, filter, filter_map, flat_map, take_while, Option, Some, None, Result, Ok, Err, is_none, option_map}
+use Rattle.std.specs.Prelude.{ℕ, ◌+◌, Bool, true, false, not, ◌&&◌, ◌==◌, if◌then◌else◌, List, [], ◌∷◌, ◌++◌, map, reverse, length, slice_get, filter, filter_map, flat_map, take_while, Option, Some, None, Result, Ok, Err, is_none}
 use Rattle.std.specs.Ordering.{int_eq}
 use Rattle.change_log.specs.declared.entry.LogEntry.{LogEntry}
 use Rattle.change_log.specs.declared.entry.LogEntry.TheVariants.{Chunk, Insert, Update, Delete, Commit, Abort}

@@ -1,9 +1,9 @@
 -- A decoder as contracts see it, and the log for which it stands.
-use Rattle.std.specs.Prelude.{◌≡◌, ℕ, ◌+◌, ◌<◌, ◌≤◌, ◌^◌, Bool, ◌&&◌, ◌==◌, nat_eq, if◌then◌else◌, List, [], ◌∷◌, ◌++◌, length, Option, Some, None, Result, Ok, Err, option_map}
+use Rattle.std.specs.Prelude.{◌≡◌, ℕ, ◌+◌, ◌<◌, ◌≤◌, ◌^◌, Bool, ◌&&◌, ◌==◌, nat_eq, if◌then◌else◌, List, [], ◌∷◌, ◌++◌, length, Option, Some, None, Result, Ok, Err}
 use Rattle.std.specs.List.{All}
 use Rattle.std.specs.Map.{lookup}
 use Rattle.change_log.specs.declared.entry.LogEntry.{LogEntry}
-use Rattle.change_log.specs.declared.entry.LogEntry.TheVariants.{Chunk, Insert, Update, Delete, Commit, Abort}
+use Rattle.change_log.specs.declared.entry.LogEntry.TheVariants.{Chunk, Insert, Update, Delete}
 use Rattle.tuple_layout.specs.declared.cell.Cell.{Cell}
 use Rattle.tuple_layout.specs.declared.cell.Cell.TheVariants as cells
 use Rattle.stream_wire.specs.Spelling.{IsTable}
@@ -11,7 +11,7 @@ use Rattle.stream_wire.specs.declared.message.Message.{Message}
 use Rattle.decode_stream.specs.declared.fault.DecodeFault.{DecodeFault}
 use Rattle.decode_stream.specs.declared.fault.DecodeFault.TheVariants.{Memory}
 use Rattle.decode_stream.specs.declared.gathered.ValueName.{ValueName}
-use Rattle.decode_stream.specs.Decoding.{TransactionState, GatheredValue, Found, xid_of, unless_none, gathered, open_entries, changes_of, count_of, first_fault, commits, commit_at, numbered, decode}
+use Rattle.decode_stream.specs.Decoding.{TransactionState, GatheredValue, Found, xid_of, unless_none, gathered, open_entries, changes_of, first_fault, commits, commit_at, numbered, decode}
 
 -- the values that are gathered, by their names
 abbrev pub Values : Type 0

@@ -29,9 +29,7 @@ fn name_of(table: u16, p: &Pointer) -> ValueName
 fn is_pointed_to(cells: &[Cell], value_id: u32) -> bool
     ensures { result ≡ list_any (points_to value_id) cells.now }
 {
-    cells
-        .iter()
-        .any(|cell| matches!(cell, Cell::Out(p) if p.value_id == value_id))
+    cells.iter().any(|cell| matches!(cell, Cell::Out(p) if p.value_id == value_id))
 }
 
 /// The fault of a gathered value that has another length than its pointer says.
@@ -89,12 +87,7 @@ fn copied(values: &Values, name: &ValueName) -> Result<Sent, AllocError>
 
 /// What is sent of a cell before gathered values are moved to their columns: one that an earlier cell
 /// points to as well is copied.
-fn plan_cell(
-    values: &Values,
-    table: u16,
-    before: &[Cell],
-    cell: &Cell,
-) -> Result<Sent, AllocError>
+fn plan_cell(values: &Values, table: u16, before: &[Cell], cell: &Cell) -> Result<Sent, AllocError>
     ensures { IfOk result (λ column. column ≡ planned_of (found_in values.now.entries) table before.now cell.now) }
 {
     match cell {
@@ -111,12 +104,7 @@ fn plan_cell(
 }
 
 /// What is sent of a row's cells before gathered values are moved to their columns.
-fn plan(
-    alloc: Global,
-    values: &Values,
-    table: u16,
-    cells: &[Cell],
-) -> Result<SentList, AllocError>
+fn plan(alloc: Global, values: &Values, table: u16, cells: &[Cell]) -> Result<SentList, AllocError>
     ensures { IfOk result (λ columns. columns ≡ planned (found_in values.now.entries) table [] cells.now) }
 {
     let mut columns = ListOf::new(alloc);

@@ -20,7 +20,7 @@ use std::marker::Model;
 #[derive(Drop)]
 pub(crate) struct Table {
     alloc: Global,
-    open: IndexMap<u64, Open>,
+    transactions: IndexMap<u64, Open>,
 }
 
 impl Model for Table {
@@ -28,7 +28,7 @@ impl Model for Table {
 
     ghost Value = { OpenList };
 
-    ghost view = { λ table. table.open.entries };
+    ghost view = { λ table. table.transactions.entries };
 }
 
 /// The transaction that an entry belongs to.
@@ -71,8 +71,11 @@ impl Table {
     pub(crate) fn new(alloc: Global) -> Result<Table, AllocError>
         ensures { IfOk result (λ table. table ≡ []) }
     {
-        let open = IndexMap::with_capacity(alloc, 8)?;
-        Ok(Table { alloc, open })
+        let transactions = IndexMap::with_capacity(alloc, 8)?;
+        Ok(Table {
+            alloc,
+            transactions,
+        })
     }
 
     /// Takes in the first entry of a transaction, which does not end it.
@@ -84,7 +87,7 @@ impl Table {
         ensures err { OnErr result (self.new ≡ self.old) }
     {
         let transaction = first_of(self.alloc, e)?;
-        put(&mut self.open, xid, transaction)?;
+        put(&mut self.transactions, xid, transaction)?;
         Ok(())
     }
 
@@ -97,7 +100,7 @@ impl Table {
         ensures err { OnErr result (self.new ≡ self.old) }
     {
         let xid = xid_of_entry(e);
-        let Some(transaction) = self.open.get_mut(&xid) else {
+        let Some(transaction) = self.transactions.get_mut(&xid) else {
             return self.start(xid, e);
         };
         transaction.take_in(self.alloc, e)
@@ -109,7 +112,7 @@ impl Table {
         ensures left { (q : ℕ) → open_at self.new q ≡ cond (nat_eq xid q) None (open_at self.old q) }
         ensures some { IfSome result (λ changes. (changes ≢ []) × All IsInRange changes) }
     {
-        let Some(transaction) = self.open.swap_remove(&xid) else {
+        let Some(transaction) = self.transactions.swap_remove(&xid) else {
             return None;
         };
         let changes = transaction.into_changes();

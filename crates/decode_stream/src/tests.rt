@@ -164,10 +164,7 @@ fn refuses(
 #[test]
 fn values_are_put_together(rt: HostRuntime) -> Result<(), Fail> {
     let alloc = rt.alloc();
-    let small = [
-        Line::Insert(3, 1, &[Part::In(&[1, 2, 3])]),
-        Line::Commit(3),
-    ];
+    let small = [Line::Insert(3, 1, &[Part::In(&[1, 2, 3])]), Line::Commit(3)];
     let want = [
         0x42, 0, 0, 0, 1, 0x49, 0, 1, 0, 0, 0, 0, 0, 0, 0, 1, 0, 1, 0x62, 0, 0, 0, 3, 1, 2, 3,
         0x43, 0, 0, 0, 1,
@@ -286,7 +283,10 @@ fn the_example_of_test_decoding(rt: HostRuntime) -> Result<(), Fail> {
 fn the_first_fault(rt: HostRuntime) -> Result<(), AllocError> {
     let alloc = rt.alloc();
     let order = DecodeFault::ChunkOrder { got: 0, wanted: 1 };
-    let twice = [Line::Chunk(3, 16384, 0, b"a"), Line::Chunk(3, 16384, 0, b"a")];
+    let twice = [
+        Line::Chunk(3, 16384, 0, b"a"),
+        Line::Chunk(3, 16384, 0, b"a"),
+    ];
     refuses(&rt, alloc, &twice, order)?;
     // It stands in a transaction that does not end, before another's.
     let size = DecodeFault::SizeOf { got: 2, wanted: 3 };

@@ -1,5 +1,5 @@
 -- Columns of cells without a fault are within their ranges.
-use Rattle.std.proofs.Common.{◌≡◌, sym, subst}
+use Rattle.std.proofs.Common.{sym, subst}
 use Rattle.stream_wire.specs.Spelling.{AreColumns}
 use Rattle.decode_stream.specs.States.{found_in}
 use Rattle.decode_stream.proofs.Columns.{columns_range}

@@ -9,5 +9,5 @@ use Rattle.decode_stream.proofs.row.fill.Given as goal
 abbrev pub invariant-loop-i : goal.invariant-loop-i
 invariant-loop-i l = record {
   columns : l.columns ≡ map (column_of (found_in l.fn.values.entries) l.table) (take l.i l.cells) ++ planned (found_in l.fn.values.entries) l.table (take l.i l.cells) (drop l.i l.cells);
-  values : (value_id : ℕ) → found_in l.values.entries l.table value_id ≡ (if list_any (points_to value_id) (take l.i l.cells) then None else found_in l.fn.values.entries l.table value_id)
+  values : (value_id : ℕ) → found_in l.values.entries l.table value_id ≡ (if list_any (points_to value_id) (take l.i l.cells) then None else found_in l.fn.values.entries l.table value_id);
 }

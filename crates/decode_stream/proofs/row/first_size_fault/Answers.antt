@@ -1,5 +1,5 @@
 -- The cells so far have no fault, and then the first that has one tells it.
-use Rattle.std.proofs.Common.{◌≡◌, Some, None, sym, ◌∙◌}
+use Rattle.std.proofs.Common.{sym}
 use Rattle.decode_stream.specs.Decoding.{cell_fault}
 use Rattle.decode_stream.specs.States.{found_in}
 use Rattle.decode_stream.proofs.Lists.{first_found, none_more}

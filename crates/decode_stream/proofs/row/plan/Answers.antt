@@ -1,7 +1,6 @@
 -- One column more is planned.
-use Rattle.std.proofs.Common.{◌≡◌, [], take, sym, ap, ◌∙◌}
+use Rattle.std.proofs.Common.{take}
 use Rattle.decode_stream.specs.States.{found_in}
-use Rattle.decode_stream.specs.Rows.{planned}
 use Rattle.decode_stream.proofs.Lists.{take_more}
 use Rattle.decode_stream.proofs.Columns.{planned-push}
 use Rattle.decode_stream.proofs.row.plan.Goals as goal

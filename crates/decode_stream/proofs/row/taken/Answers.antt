@@ -1,6 +1,5 @@
 -- A value is taken by its own name alone.
-use Rattle.std.proofs.Common.{◌≡◌, cond, None, sym, ap, ◌∙◌}
-use Rattle.decode_stream.specs.States.{found_in, value_name}
+use Rattle.decode_stream.specs.States.{value_name}
 use Rattle.decode_stream.proofs.Columns.{taken_name}
 use Rattle.decode_stream.proofs.row.taken.Goals as goal
 

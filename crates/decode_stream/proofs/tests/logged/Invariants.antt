@@ -8,5 +8,5 @@ abbrev pub invariant-loop-line : goal.invariant-loop-line
 invariant-loop-line g l = record {
   ranged : All IsRanged l.log.entries;
   few : length l.log.entries ≤ 1000;
-  short : sum_by weight l.log.entries ≤ 1000 * length l.log.entries
+  short : sum_by weight l.log.entries ≤ 1000 * length l.log.entries;
 }

@@ -1,9 +1,7 @@
 -- The log's part up to an entry decides what is fed, and a fault of it is the log's.
-use Rattle.std.proofs.Common.{◌≡◌, ◌+◌, ◌++◌, ◌∷◌, [], List, take, drop, sym, ap, ◌∙◌, append_assoc, arith}
+use Rattle.std.proofs.Common.{◌+◌, ◌++◌, ◌∷◌, [], take, drop, sym, ◌∙◌, append_assoc, arith}
 use Rattle.std.proofs.lemmas.Result.{err_from_is_err_and}
 use Rattle.std.proofs.lemmas.List.{take-append-drop}
-use Rattle.change_log.specs.declared.entry.LogEntry.{LogEntry}
-use Rattle.decode_stream.specs.States.{IsSent, IsDecoded}
 use Rattle.decode_stream.proofs.Lists.{found_within, take_found, split_found}
 use Rattle.decode_stream.proofs.Wholes.{sent_nothing, told_of_part, fits_next, count_next}
 use Rattle.decode_stream.proofs.whole.decode_log.Goals as goal

@@ -1,5 +1,5 @@
 -- The transaction that an entry commits, if any, is sent behind the others.
-use Rattle.std.proofs.Common.{◌++◌, [], Option, Some, sym, ap, ◌∙◌}
+use Rattle.std.proofs.Common.{◌++◌, [], Option, sym, ap, ◌∙◌}
 use Rattle.std.specs.List.{cons_option}
 use Rattle.std.proofs.lemmas.List.{append-nil}
 use Rattle.decode_stream.specs.Decoding.{TransactionState}

@@ -1,6 +1,5 @@
 -- A change more is within its ranges, and nothing is gathered behind it.
-use Rattle.std.proofs.Common.{◌≡◌, ◌++◌, ◌∷◌, [], List, refl, sym, ap, ◌∙◌}
-use Rattle.std.specs.List.{All}
+use Rattle.std.proofs.Common.{◌++◌, ◌∷◌, [], List, ap, ◌∙◌}
 use Rattle.std.proofs.lemmas.List.Elements.{All-push}
 use Rattle.stream_wire.specs.Spelling.{IsInRange}
 use Rattle.stream_wire.specs.declared.message.Message.{Message}

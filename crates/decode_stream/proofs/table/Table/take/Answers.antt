@@ -24,7 +24,7 @@ returns-in_err-take_in-in_default c =
       commit = tt;
       some = tt;
       fault = λ log are. tells_err (Unit {0}) (Option (List Message)) (fault_is log c.args.e.now c.args.self.now are) c.in_err-take_in-in_default.field-0.0 c.in_err-take_in-in_default.ensures.fault;
-      err = c.in_err-take_in-in_default.ensures.err
+      err = c.in_err-take_in-in_default.ensures.err;
     })
 
 pub returns-in_ok-take_in-in_default : goal.returns-in_ok-take_in-in_default
@@ -33,5 +33,5 @@ returns-in_ok-take_in-in_default c = record {
   commit = λ log are. no_commit _ c.args.e.now c.in_default.not-Commit;
   some = tt;
   fault = λ log are. sym (fault_is log c.args.e.now c.args.self.now are) ∙ c.in_ok-take_in-in_default.ensures.fault;
-  err = tt
+  err = tt;
 }

@@ -103,7 +103,7 @@ has_room log before e rest few short is table value_id bytes within =
 pub decodable : (log : List LogEntry) → length log + 1 < 2 ^ 32 → sum_by weight log < 2 ^ 32 → All IsRanged log → IsDecodable log
 decodable log few short ranged = record {
   count = omega (arith, few_commits log);
-  fits = λ before e rest is sound. fits_ranged (open_entries (xid_of e) before) e (all_middle IsRanged before e rest (subst (All IsRanged) is ranged)) (has_room log before e rest few short is);
+  fits = λ before e rest is. fits_ranged (open_entries (xid_of e) before) e (all_middle IsRanged before e rest (subst (All IsRanged) is ranged)) (has_room log before e rest few short is);
 }
 
 -- a decoder's first entry

@@ -165,11 +165,16 @@ module _ (log : List LogEntry) (e : LogEntry) where
   feeds_refused X old new (SizeOf got wanted) is none here kept given = refused old new (SizeOf got wanted) is none here kept given
   feeds_refused X old new Memory is none here kept given = tt
 
+-- nothing is open in a log of no entries
+pub nothing_open : (table : OpenList) → table ≡ [] → AreOpen table []
+unfolding open_entries behind_last
+nothing_open table none = λ xid. subst (λ (t : OpenList). IsOpenAt (open_at t xid) (open_entries xid [])) (sym none) refl
+
 -- a decoder that was fed nothing
 pub fed_nothing : (state : DecoderState) → state.table ≡ [] → state.given ≡ 0 → state.fault ≡ None → Decodes state []
-unfolding first_fault commits with_fronts open_entries behind_last
+unfolding first_fault commits with_fronts
 fed_nothing state table given fault = record {
   fault = fault;
   given = given;
-  table = λ h xid. subst (λ (t : OpenList). IsOpenAt (open_at t xid) (open_entries xid [])) (sym table) refl;
+  table = λ h. nothing_open state.table table;
 }

@@ -3,6 +3,7 @@ pub mod Columns
 pub mod Firsts
 pub mod Lists
 pub mod Opens
+pub mod Parts
 pub mod Results
 pub mod Tables
 pub mod Wholes

@@ -11,7 +11,7 @@ use Rattle.decode_stream.specs.States.{DecoderState, Decodes, Feeds, IsSent, IsD
 use Rattle.decode_stream.proofs.Opens.{found_is}
 use Rattle.decode_stream.proofs.Firsts.{fault_next, fault_stays, commits_more, commits_stay, commits_after}
 
-some_none : {X : Type 0} (x : X) → Some x ≡ None → ⊥
+pub some_none : {X : Type 0} (x : X) → Some x ≡ None → ⊥
 some_none x h = cc
 
 -- one transaction more has the next number
@@ -28,7 +28,7 @@ numbered-push n (x ∷ xs) o =
     shifted : n + 1 + length xs ≡ n + suc (length xs)
     shifted = omega arith
 
-numbered_more : (before : List (List Message)) (o : Option (List Message)) → numbered 1 (before ++ cons_option o []) ≡ numbered 1 before ++ cons_option (next_of (length before) o) []
+pub numbered_more : (before : List (List Message)) (o : Option (List Message)) → numbered 1 (before ++ cons_option o []) ≡ numbered 1 before ++ cons_option (next_of (length before) o) []
 numbered_more before o = numbered-push 0 before o ∙ ap (λ (g : ℕ). numbered 1 before ++ cons_option (next_of g o) []) (zero-add (length before))
 
 module _ (log : List LogEntry) (e : LogEntry) where
@@ -89,7 +89,7 @@ told_of_part X Memory part rest log is h = tt
 -- an entry that can be decoded after the log's part can be decoded by its decoder
 pub fits_next : (log part rest : List LogEntry) (e : LogEntry) (state : DecoderState) (transactions : List TransactionState) → IsDecodable log → log ≡ part ++ e ∷ rest → IsSent state transactions part → Fits (found_of (open_at state.table (xid_of e))) e
 fits_next log part rest e state transactions can is sent =
-    subst (λ (found : Found). Fits found e) (λ i table value_id. sym (found_is part e state.table (sent.decodes.table sent.sound) table value_id) i) (can.fits part e rest is sent.sound)
+    subst (λ (found : Found). Fits found e) (λ i table value_id. sym (found_is part e state.table (sent.decodes.table sent.sound) table value_id) i) (can.fits part e rest is)
 
 pub count_next : (log part rest : List LogEntry) (state : DecoderState) → IsDecodable log → log ≡ part ++ rest → Decodes state part → state.given + 1 < 2 ^ 32
 count_next log part rest state can is decodes = omega (arith, can.count, decodes.given, count_within part rest, ap (λ (l : List LogEntry). length (commits l)) is)

@@ -143,7 +143,7 @@ Stays old new (Err fault) = Unit {0}
 -- the entries of a log can be decoded, and give fewer than 2 ^ 32 - 1 transactions
 pub record IsDecodable (log : List LogEntry) : Type 0 where
   pub count : length (commits log) + 1 < 2 ^ 32
-  pub fits : (before : List LogEntry) (e : LogEntry) (rest : List LogEntry) → log ≡ before ++ e ∷ rest → first_fault before ≡ None → Fits (gathered (open_entries (xid_of e) before)) e
+  pub fits : (before : List LogEntry) (e : LogEntry) (rest : List LogEntry) → log ≡ before ++ e ∷ rest → Fits (gathered (open_entries (xid_of e) before)) e
 
 -- what decoding a log answers: its transactions, or its first fault
 abbrev pub IsDecoded : List LogEntry → Result (List TransactionState) DecodeFault → Type 0

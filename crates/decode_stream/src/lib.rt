@@ -10,13 +10,16 @@ mod fault;
 mod gathered;
 mod open;
 mod row;
+mod split;
 mod table;
 mod transaction;
 mod whole;
+mod worker;
 
 pub use change_log::{Log, LogEntry};
 pub use decoder::Decoder;
 pub use fault::DecodeFault;
+pub use split::decode_all;
 pub use stream_wire::Message;
 pub use transaction::{MessageList, Transaction, TransactionList};
 pub use whole::decode_log;

@@ -1,10 +1,10 @@
 -- What a worker knows of the whole log, and what the parts of all workers tell of it.
-use Rattle.std.proofs.Common.{◌≡◌, ◌≢◌, ◌≤◌, ◌<◌, ◌%◌, ◌⊎◌, inl, inr, ℕ, ◌+◌, Bool, true, false, cond, eqb, nat_eq, nat_lt, List, [], ◌∷◌, ◌++◌, Option, Some, None, Result, Ok, Err, IfSome, IfOk, OnOk, MatchBool, ◌^◌, IsSome, length, take, drop, filter, slice_get, slice_index_or, refl, sym, ap, subst, ◌∙◌, append_assoc, eq-eqb, true≢false, arith, zero, suc}
+use Rattle.std.proofs.Common.{◌≡◌, ◌≤◌, ◌<◌, ◌%◌, inl, inr, ℕ, ◌+◌, Bool, true, false, cond, eqb, nat_eq, nat_lt, List, [], ◌∷◌, ◌++◌, Option, Some, None, Result, Ok, Err, IfSome, IfOk, OnOk, MatchBool, ◌^◌, IsSome, length, take, drop, filter, slice_get, slice_index_or, refl, sym, ap, subst, ◌∙◌, eq-eqb, true≢false, arith, zero, suc}
 use Rattle.std.specs.List.{cons_option}
 use Rattle.std.proofs.lemmas.Bool.{eqb-true, ne_eqb, ltb-true, ltb-false}
 use Rattle.std.proofs.lemmas.Option.{slice_get_within}
 use Rattle.std.proofs.lemmas.Bool.Decides.{eqb_tells}
-use Rattle.std.proofs.lemmas.List.{append-nil, take-append-drop}
+use Rattle.std.proofs.lemmas.List.{append-nil}
 use Rattle.std.proofs.lemmas.List.Elements.{filter-append}
 use Rattle.stream_wire.specs.declared.message.Message.{Message}
 use Rattle.change_log.specs.declared.entry.LogEntry.{LogEntry}
@@ -13,7 +13,7 @@ use Rattle.decode_stream.specs.declared.fault.DecodeFault.TheVariants.{ChunkOrde
 use Rattle.decode_stream.specs.Decoding.{TransactionState, Found, with_fronts, xid_of, is_end, behind_last, open_entries, gathered, fault_of, committed, fault_at, commit_at, first_fault, commits, numbered}
 use Rattle.decode_stream.specs.States.{OpenList, AreOpen, Fits, IsDecodable, Tells, found_of, open_at, next_of}
 use Rattle.decode_stream.proofs.Opens.{found_is}
-use Rattle.decode_stream.specs.Parts.{Told, ToldList, IsTold, IsPart, IsPartFrom, ArePartsFrom, AreGiven, Works, told_at, worker_at, is_own}
+use Rattle.decode_stream.specs.Parts.{Told, ToldList, IsTold, IsPart, ArePartsFrom, AreGiven, Works, told_at, worker_at, is_own}
 use Rattle.decode_stream.proofs.Lists.{take_found}
 use Rattle.decode_stream.proofs.Firsts.{fault_next, commits_more, nothing_open}
 use Rattle.decode_stream.proofs.Wholes.{count_within, fault_lasts, none_before, numbered_more, some_none}
@@ -93,7 +93,7 @@ module _ (workers worker : ℕ) (log : List LogEntry) (n : ℕ) (e : LogEntry) (
       | inl h ↦ absurd (true≢false (sym own ∙ ap (is_own workers worker) (same_found log m x e here (subst (λ (k : ℕ). slice_get log k ≡ Some e) h.1 at)) ∙ other))
       | inr h ↦ works.so_far m x (omega (arith, low, h.1)) here none own
     ];
-    free = λ m low. works.free m (omega (arith, low))
+    free = λ m low. works.free m (omega (arith, low));
   }
     where
       taken : filter (is_own workers worker) (take (n + 1) log) ≡ filter (is_own workers worker) (take n log)
@@ -110,8 +110,8 @@ module _ (workers worker : ℕ) (log : List LogEntry) (n : ℕ) (e : LogEntry) (
     told_up_to : (m : ℕ) (x : LogEntry) → m < n + 1 → slice_get log m ≡ Some x → first_fault (take m log) ≡ None → is_own workers worker x ≡ true → IsTold (told_at after m) (take m log, x)
     told_up_to m x low found none mine = elim (eqb_tells n m) [
       | inl h ↦ subst (λ (k : ℕ). IsTold (told_at after k) (take k log, x)) h.1
-        (subst (λ (y : LogEntry). IsTold (told_at after n) (take n log, y)) (same_found log n e x at (subst (λ (k : ℕ). slice_get log k ≡ Some x) (sym h.1) found))
-        (told_own workers worker (take n log) e own (told_at after n) here))
+          (subst (λ (y : LogEntry). IsTold (told_at after n) (take n log, y)) (same_found log n e x at (subst (λ (k : ℕ). slice_get log k ≡ Some x) (sym h.1) found))
+          (told_own workers worker (take n log) e own (told_at after n) here))
       | inr h ↦ subst (λ (t : Option Told). IsTold t (take m log, x)) (sym (others m h.0)) (works.so_far m x (omega (arith, low, h.1)) found none mine)
     ]
 
@@ -120,7 +120,7 @@ module _ (workers worker : ℕ) (log : List LogEntry) (n : ℕ) (e : LogEntry) (
     works_own table are = record {
       open_ones = subst (AreOpen table) (sym taken) are;
       so_far = told_up_to;
-      free = λ m low. others m (ne_eqb n m (λ h. omega (arith, low, h))) ∙ works.free m (omega (arith, low))
+      free = λ m low. others m (ne_eqb n m (λ h. omega (arith, low, h))) ∙ works.free m (omega (arith, low));
     }
       where
         taken : filter (is_own workers worker) (take (n + 1) log) ≡ filter (is_own workers worker) (take n log) ++ e ∷ []
@@ -163,7 +163,7 @@ pub works_start : (workers worker : ℕ) (log : List LogEntry) (table : OpenList
 works_start workers worker log table told none empty = record {
   open_ones = nothing_open table none;
   so_far = λ m e low at sound own. absurd (omega (arith, low));
-  free = λ m low. ap (λ (t : ToldList). told_at t m) empty
+  free = λ m low. ap (λ (t : ToldList). told_at t m) empty;
 }
 
 -- the parts from the next place on

@@ -3,11 +3,14 @@ ghost use Rattle.stream_wire.specs.Spelling.{IsTable};
 ghost use Rattle.decode_stream.specs.Decoding.{chunk_bytes};
 ghost use Rattle.decode_stream.specs.States.{AreCells, Fits, IsDecodable, IsShortCell};
 
-use crate::{DecodeFault, Decoder, Log, LogEntry, Message, TransactionList, decode_log};
+use crate::{
+    DecodeFault, Decoder, Log, LogEntry, Message, TransactionList, decode_all, decode_log,
+};
 use list_facts::ListOf;
 use std::alloc::{AllocError, Global};
 use std::process::Abort;
 use std::test::Fail;
+use std::thread::Threads;
 use stream_wire::write_message;
 use tuple_layout::{Bytes, Cell, CellList, Pointer};
 
@@ -142,22 +145,33 @@ fn stream_of(alloc: Global, sent: &TransactionList) -> Result<Bytes, AllocError>
     Ok(out)
 }
 
-fn sends(rt: &impl Abort, alloc: Global, lines: &[Line], want: &[u8]) -> Result<(), Fail> {
+fn sends<R: Abort + Threads + Sync>(
+    rt: &R,
+    alloc: Global,
+    lines: &[Line],
+    want: &[u8],
+) -> Result<(), Fail> {
     let log = logged(rt, alloc, lines)?;
     let sent = decode_log(alloc, &log)?;
     assert!(rt; stream_of(alloc, &sent)?.as_slice() == want);
+    for workers in [1, 2, 3, 64] {
+        let sent = decode_all(rt, alloc, &log, workers)?;
+        assert!(rt; stream_of(alloc, &sent)?.as_slice() == want);
+    }
     Ok(())
 }
 
-fn refuses(
-    rt: &impl Abort,
+fn refuses<R: Abort + Threads + Sync>(
+    rt: &R,
     alloc: Global,
     lines: &[Line],
     want: DecodeFault,
 ) -> Result<(), AllocError> {
     let log = logged(rt, alloc, lines)?;
-    let refused = decode_log(alloc, &log).err();
-    assert!(rt; refused == Some(want));
+    assert!(rt; decode_log(alloc, &log).err() == Some(want));
+    for workers in [1, 2, 3, 64] {
+        assert!(rt; decode_all(rt, alloc, &log, workers).err() == Some(want));
+    }
     Ok(())
 }
 

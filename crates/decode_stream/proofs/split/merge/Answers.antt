@@ -1,5 +1,5 @@
 -- The part of an entry's worker tells what it has and commits; what is told up to it is sent.
-use Rattle.std.proofs.Common.{◌≡◌, ◌+◌, ◌++◌, ◌∷◌, [], ℕ, List, slice_index_or, take, drop, sym, ap, ◌∙◌, append_assoc, arith}
+use Rattle.std.proofs.Common.{◌+◌, ◌++◌, ◌∷◌, [], ℕ, List, slice_index_or, take, drop, sym, ap, ◌∙◌, append_assoc, arith}
 use Rattle.std.proofs.lemmas.Result.{err_from_is_err_and}
 use Rattle.std.proofs.lemmas.List.{take-append-drop}
 use Rattle.change_log.specs.declared.entry.LogEntry.{LogEntry}
@@ -36,8 +36,8 @@ returns-in_err-send_told c =
     let here = split_found c.args.log.now.entries c.loop-n.n c.in-Some.e.now c.in-Some.ensures in
     let w = c.worker_of.ensures.worker in
     let told = told_here c.loop-n.n c.args.workers c.args.log.now.entries c.loop-n.parts.items c.in-Some.e.now c.take_told-told.result (omega (arith, c.worker_of.ensures.within, w))
-        (λ d. c.take_told-told.ensures.told d ∙ ap (λ (k : ℕ). told_at (slice_index_or c.loop-n.parts.items k d) c.loop-n.n) w)
-        c.loop-n.invariant.parts (sym c.in-Some.ensures) c.loop-n.invariant.sound in
+    (λ d. c.take_told-told.ensures.told d ∙ ap (λ (k : ℕ). told_at (slice_index_or c.loop-n.parts.items k d) c.loop-n.n) w)
+    c.loop-n.invariant.parts (sym c.in-Some.ensures) c.loop-n.invariant.sound in
     rw (p.1, p.2)
     (told_of_part (Unit {0}) c.in_err-send_told.field-0.0 (part ++ c.in-Some.e.now ∷ []) rest c.args.log.now.entries (here ∙ sym (append_assoc part (c.in-Some.e.now ∷ []) rest))
     (c.in_err-send_told.ensures.fault part c.in-Some.e.now told c.loop-n.invariant.sound))
@@ -48,11 +48,11 @@ loop-n-preserved c =
     let more = take_found c.args.log.now.entries c.loop-n.n c.in-Some.e.now c.in-Some.ensures in
     let w = c.worker_of.ensures.worker in
     let told = told_here c.loop-n.n c.args.workers c.args.log.now.entries c.loop-n.parts.items c.in-Some.e.now c.take_told-told.result (omega (arith, c.worker_of.ensures.within, w))
-        (λ d. c.take_told-told.ensures.told d ∙ ap (λ (k : ℕ). told_at (slice_index_or c.loop-n.parts.items k d) c.loop-n.n) w)
-        c.loop-n.invariant.parts (sym c.in-Some.ensures) c.loop-n.invariant.sound in
+    (λ d. c.take_told-told.ensures.told d ∙ ap (λ (k : ℕ). told_at (slice_index_or c.loop-n.parts.items k d) c.loop-n.n) w)
+    c.loop-n.invariant.parts (sym c.in-Some.ensures) c.loop-n.invariant.sound in
     record {
       sound = ap first_fault more ∙ c.in_ok-send_told.ensures.fault part c.in-Some.e.now told c.loop-n.invariant.sound;
       sent = c.in_ok-send_told.ensures.ok part c.in-Some.e.now told c.loop-n.invariant.sound c.loop-n.invariant.sent ∙ ap (λ (l : List LogEntry). numbered 1 (commits l)) (sym more);
       parts = parts_next c.loop-n.n c.args.workers c.args.log.now.entries c.loop-n.parts.items c.take_told-told.new.parts.items c.take_told-told.ensures.others c.loop-n.invariant.parts;
-      len = c.take_told-told.ensures.len ∙ c.loop-n.invariant.len
+      len = c.take_told-told.ensures.len ∙ c.loop-n.invariant.len;
     }

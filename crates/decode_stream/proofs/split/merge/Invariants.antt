@@ -9,5 +9,5 @@ invariant-loop-n l = record {
   sound : first_fault (take l.n l.log.entries) ≡ None;
   sent : l.sent ≡ numbered 1 (commits (take l.n l.log.entries));
   parts : ArePartsFrom l.n l.log.entries l.workers l.parts.items;
-  len : vec_len l.parts ≡ l.workers
+  len : vec_len l.parts ≡ l.workers;
 }

@@ -6,5 +6,5 @@ use Rattle.decode_stream.proofs.split.whole_parts.Given as goal
 abbrev pub invariant-loop-part : goal.invariant-loop-part
 invariant-loop-part l = record {
   len : vec_len l.all ≡ length l.yielded;
-  each : (w : ℕ) (d : _) (f : ToldList) → w < length l.yielded → slice_index_or l.yielded w d ≡ Ok (slice_index_or l.all.items w f)
+  each : (w : ℕ) (d : _) (f : ToldList) → w < length l.yielded → slice_index_or l.yielded w d ≡ Ok (slice_index_or l.all.items w f);
 }

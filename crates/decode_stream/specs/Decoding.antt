@@ -58,7 +58,7 @@ abbrev pub chunk_bytes : LogEntry → List ℕ
 chunk_bytes (Chunk xid table value_id seq bytes) = bytes
 chunk_bytes entry = []
 
--- each item with the items before it, where some stand before all
+-- each item of xs with the items before it, where `before` stands before all
 abbrev pub fronts_after : {X : Type 0} → List X → List X → List (List X × X)
 fronts_after before [] = []
 fronts_after before (x ∷ xs) = (before, x) ∷ fronts_after (before ++ x ∷ []) xs
@@ -108,20 +108,21 @@ change_of found entry = None
 unfoldable pub changes_of : List LogEntry → List Message
 changes_of own = filter_map (λ p. change_of (gathered p.0) p.1) (with_fronts own)
 
--- the next chunk of a value has its place after those that were gathered
+-- how many chunks of a value are gathered: the place of the next one
 abbrev pub count_of : Option GatheredValue → ℕ
 count_of None = 0
 count_of (Some value) = value.chunks
 
--- a chunk that is not the next one
+-- the fault of a chunk that is not the next one of its value
 abbrev pub order_fault : Option GatheredValue → ℕ → Option DecodeFault
 order_fault value seq = if seq == count_of value then None else Some (ChunkOrder seq (count_of value))
 
--- a gathered value has not the size that its pointer says
+-- the fault of a gathered value that has not the size that its pointer says
 abbrev pub size_fault : Option GatheredValue → ℕ → Option DecodeFault
 size_fault None size = None
 size_fault (Some value) size = if length value.bytes == size then None else Some (SizeOf (length value.bytes) size)
 
+-- the fault of a cell: that of the value that it points to
 abbrev pub cell_fault : Found → ℕ → Cell → Option DecodeFault
 cell_fault found table (cells.Out p) = size_fault (found table p.value_id) p.size
 cell_fault found table cell = None
@@ -147,10 +148,11 @@ abbrev pub committed : List LogEntry → LogEntry → Option (List Message)
 committed own (Commit xid) = unless_none (changes_of own)
 committed own entry = None
 
--- an entry's fault, and what it commits, with the log before it
+-- an entry's fault, after the log before it
 abbrev pub fault_at : List LogEntry × LogEntry → Option DecodeFault
 fault_at p = fault_of (gathered (open_entries (xid_of p.1) p.0)) p.1
 
+-- what an entry commits, after the log before it
 abbrev pub commit_at : List LogEntry × LogEntry → Option (List Message)
 commit_at p = committed (open_entries (xid_of p.1) p.0) p.1
 
@@ -167,10 +169,11 @@ abbrev pub numbered : ℕ → List (List Message) → List TransactionState
 numbered n [] = []
 numbered n (changes ∷ rest) = record { number = n; changes = changes } ∷ numbered (n + 1) rest
 
--- the transactions of a log, or its first fault
+-- transactions, or a fault in their place
 abbrev pub decoded : Option DecodeFault → List TransactionState → Result (List TransactionState) DecodeFault
 decoded None sent = Ok sent
 decoded (Some fault) sent = Err fault
 
+-- the transactions of a log, or its first fault
 abbrev pub decode : List LogEntry → Result (List TransactionState) DecodeFault
 decode log = decoded (first_fault log) (numbered 1 (commits log))

@@ -17,6 +17,7 @@ Told = Result (List Message) DecodeFault
 abbrev pub ToldList : Type 0
 ToldList = List (ℕ × Told)
 
+-- what is told of the entry at a place
 abbrev pub told_at : ToldList → ℕ → Option Told
 told_at told n = lookup (nat_eq n) told
 
@@ -24,6 +25,7 @@ told_at told n = lookup (nat_eq n) told
 abbrev pub worker_at : ℕ → LogEntry → ℕ
 worker_at workers e = xid_of e % workers
 
+-- an entry is a worker's own
 abbrev pub is_own : ℕ → ℕ → LogEntry → Bool
 is_own workers worker e = worker_at workers e == worker
 
@@ -42,6 +44,7 @@ abbrev pub IsPartFrom : ℕ → List LogEntry → ℕ → ℕ → ToldList → T
 IsPartFrom n log workers worker told =
     (m : ℕ) (e : LogEntry) → n ≤ m → slice_get log m ≡ Some e → first_fault (take m log) ≡ None → is_own workers worker e ≡ true → IsTold (told_at told m) (take m log, e)
 
+-- a worker's part of a log
 abbrev pub IsPart : List LogEntry → ℕ → ℕ → ToldList → Type 0
 IsPart log workers worker told = IsPartFrom 0 log workers worker told
 

@@ -17,13 +17,15 @@ use Rattle.decode_stream.specs.Decoding.{TransactionState, GatheredValue, Found,
 abbrev pub Values : Type 0
 Values = List (ValueName × GatheredValue)
 
+-- the name of a table's value id
 abbrev pub value_name : ℕ → ℕ → ValueName
 value_name table value_id = record { table = table; value_id = value_id }
 
+-- two names are one
 abbrev pub same_name : ValueName → ValueName → Bool
 same_name a b = (a.table == b.table) && (a.value_id == b.value_id)
 
--- the value of a table's value id
+-- what is gathered of a table's value id
 abbrev pub found_in : Values → Found
 found_in values table value_id = lookup (same_name (value_name table value_id)) values
 
@@ -64,6 +66,7 @@ pub record OpenState : Type 0 where
 abbrev pub OpenList : Type 0
 OpenList = List (ℕ × OpenState)
 
+-- the open transaction of an xid
 abbrev pub open_at : OpenList → ℕ → Option OpenState
 open_at table xid = lookup (nat_eq xid) table
 

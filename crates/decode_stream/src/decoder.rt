@@ -1,6 +1,6 @@
 //! The decoder, one entry at a time.
 
-ghost use Rattle.std.specs.Prelude.{◌≡◌, ◌≢◌, ◌+◌, ◌<◌, ◌^◌, [], List, IfOk, IfSome};
+ghost use Rattle.std.specs.Prelude.{◌≡◌, ◌≢◌, ◌+◌, ◌<◌, ◌^◌, [], List, IfOk, IfSome, None};
 ghost use Rattle.std.specs.List.{All};
 ghost use Rattle.stream_wire.specs.Spelling.{IsInRange};
 ghost use Rattle.change_log.specs.declared.entry.LogEntry.{LogEntry};
@@ -60,8 +60,8 @@ impl Decoder {
     /// gathered has another length than its pointer says; the decoder then answers that fault again.
     /// Where there is no memory, all is as before.
     pub fn feed(&mut self, e: &LogEntry) -> Result<Option<Transaction>, DecodeFault>
-        requires given { self.old.given + 1 < 2 ^ 32 }
-        requires fits { Fits (found_of (open_at self.old.table (xid_of e.now))) e.now }
+        requires given { self.old.fault ≡ None → self.old.given + 1 < 2 ^ 32 }
+        requires fits { self.old.fault ≡ None → Fits (found_of (open_at self.old.table (xid_of e.now))) e.now }
         ensures fed { (log : List LogEntry) → Decodes self.old log → Feeds log e.now self.new result }
         ensures memory { Stays self.old self.new result }
     {

@@ -44,6 +44,7 @@ fn wrong_size(value: &Gathered, wanted: u32) -> Option<DecodeFault>
     }
 }
 
+/// The fault of a value by its name, if it was gathered.
 fn fault_of_size(values: &Values, name: &ValueName, wanted: u32) -> Option<DecodeFault>
     ensures { result ≡ size_fault (get same_name values.now name.now) wanted }
 {

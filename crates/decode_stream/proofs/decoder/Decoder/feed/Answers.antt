@@ -1,10 +1,19 @@
 -- What the table answers of the entry is what the log with it decodes to.
-use Rattle.std.proofs.Common.{◌≡◌, Option, None, List, ◌++◌, ◌∷◌, [], refl, sym, ap, subst, ◌∙◌}
+use Rattle.std.proofs.Common.{◌+◌, ◌<◌, ◌^◌, ◌≡◌, Option, None, List, ◌++◌, ◌∷◌, [], refl, sym, ap, subst, ◌∙◌}
 use Rattle.stream_wire.specs.declared.message.Message.{Message}
-use Rattle.decode_stream.specs.Decoding.{first_fault}
-use Rattle.decode_stream.specs.States.{DecoderState, OpenList, AreOpen, given_after, next_of}
+use Rattle.decode_stream.specs.Decoding.{first_fault, xid_of}
+use Rattle.decode_stream.specs.States.{DecoderState, OpenList, AreOpen, Fits, found_of, open_at, given_after, next_of}
 use Rattle.decode_stream.proofs.Firsts.{fed, feeds_again, feeds_refused}
 use Rattle.decode_stream.proofs.decoder.Decoder.feed.Goals as goal
+
+pub take-requires : goal.take-requires
+take-requires c =
+    subst (λ (state : DecoderState). Fits (found_of (open_at state.table (xid_of c.args.e.now))) c.args.e.now) (sym c.self.view_is)
+    (c.requires.fits (ap (λ (state : DecoderState). state.fault) (sym c.self.view_is) ∙ c.in_default.is))
+
+pub give-requires-clause-given : goal.give-requires-clause-given
+give-requires-clause-given c =
+    subst (λ (state : DecoderState). state.given + 1 < 2 ^ 32) (sym c.self.view_is) (c.requires.given (ap (λ (state : DecoderState). state.fault) (sym c.self.view_is) ∙ c.in_default.is))
 
 pub returns-in-Some-clause-fed : goal.returns-in-Some-clause-fed
 returns-in-Some-clause-fed c =

@@ -7,13 +7,13 @@ ghost use Rattle.slot_page.specs.Slots.{IsDead, IsNormal};
 ghost use Rattle.slot_page.specs.Pages.{page_at, put_tid, slot_of, with_put_on, written};
 ghost use Rattle.slot_page.specs.declared.line.LinePointer.{LinePointer};
 ghost use Rattle.chunk_relation.specs.Chunks.{chunk_size, is_newly_dead, most_bytes, new_chunk};
-ghost use Rattle.chunk_relation.specs.DeadSlots.{dead_tids};
+ghost use Rattle.slot_page.specs.DeadSlots.{dead_tids};
 ghost use Rattle.chunk_relation.specs.Relations.{AreAssigned, with_ended, with_pruned};
 ghost use Rattle.chunk_index.specs.Entries.{wanted_of, with_entry};
 ghost use Rattle.chunk_index.specs.Leaves.{leaf_at};
 ghost use Rattle.chunk_index.specs.Pinned.{pin_of, without_pin};
 ghost use Rattle.chunk_index.specs.Indexes.{AddsBounds, after_batch, after_sweep, batch_of, sweep_answer};
-ghost use Rattle.toast_store.specs.Stores.{IsStore, IsUnnamed, NamesChunk, is_used};
+ghost use Rattle.toast_store.specs.Stores.{IsStore, IsUnnamed, NamesChunk};
 
 use chunk_index::{Batch, ChunkIndex, Entry, Swept};
 use chunk_relation::{ChunkRel, TidList};
@@ -190,20 +190,6 @@ impl ToastStore {
     {
         self.index.sweep_leaf(from, dead)
     }
-
-    /// Whether the n-th entry of an id, from 0, or one after it, names a chunk.
-    fn is_used_from(&self, id: u32) -> bool
-        ensures { result ≡ is_used self.now id }
-    {
-        let mut n = 0;
-        while let Some(entry) = self.index.nth_of(id, n) {
-            if self.rel.chunk_at(entry.tid).is_some() {
-                return true;
-            }
-            n += 1;
-        }
-        false
-    }
 }
 
 impl IdTest for ToastStore {
@@ -213,6 +199,13 @@ impl IdTest for ToastStore {
 
     /// Whether an id is used: an entry of it names a chunk.
     fn used(&self, id: u32) -> bool {
-        self.is_used_from(id)
+        let mut n = 0;
+        while let Some(entry) = self.index.nth_of(id, n) {
+            if self.rel.chunk_at(entry.tid).is_some() {
+                return true;
+            }
+            n += 1;
+        }
+        false
     }
 }

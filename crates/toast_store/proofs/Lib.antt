@@ -1,2 +1,4 @@
 pub mod Names
 pub mod Used
+pub mod Chosen
+pub mod Kept

@@ -1,5 +1,5 @@
 -- What others may do to a store between two steps of a job, each as the store before and after it.
-use Rattle.std.specs.Prelude.{ℕ, ◌≡◌, ◌≢◌, true, false, Some, None, List, Contains}
+use Rattle.std.specs.Prelude.{ℕ, ◌≡◌, ◌≢◌, true, false, Some, None, List, Contains, ⊤}
 use Rattle.slot_page.specs.declared.line.Tid.{Tid}
 use Rattle.slot_page.specs.declared.line.LinePointer.TheVariants.{Unused}
 use Rattle.slot_page.specs.Slots.{IsDead}
@@ -12,6 +12,8 @@ use Rattle.chunk_index.specs.declared.entry.Entry.{Entry}
 use Rattle.chunk_index.specs.Entries.{is_listed, with_entry}
 use Rattle.chunk_index.specs.Leaves.{Leaf}
 use Rattle.chunk_index.specs.Indexes.{unswept}
+use Rattle.toast_store.specs.declared.save.SaveStage.{SaveStage}
+use Rattle.toast_store.specs.declared.save.SaveStage.TheVariants.{Drawing, Putting, Indexing, Saved}
 use Rattle.toast_store.specs.Stores.{Store, IsUnnamed, NamesChunk, chunks_of}
 
 -- the value with an id is as it was: the same chunks under it
@@ -22,6 +24,13 @@ LeavesValue value_id old new = chunks_of new value_id ≡ chunks_of old value_id
 pub record LeavesUnnamed (tid : Tid) (old new : Store) : Type 0 where
   pub chunk : item_in new.rel.pages tid ≡ item_in old.rel.pages tid
   pub unnamed : IsUnnamed old.index.entries tid → IsUnnamed new.index.entries tid
+
+-- what a save relies on is as it was
+abbrev pub LeavesSave : Store → Store → SaveStage → Type 0
+LeavesSave old new Drawing = ⊤
+LeavesSave old new (Putting value_id seq) = LeavesValue value_id old new
+LeavesSave old new (Indexing value_id seq tid) = LeavesValue value_id old new × LeavesUnnamed tid old new
+LeavesSave old new Saved = ⊤
 
 -- a chunk is put, of whatever value
 pub record Puts (old new : Store) (size : ℕ) (chunk : Chunk) : Type 0 where

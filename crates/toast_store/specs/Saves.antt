@@ -12,6 +12,7 @@ use Rattle.chunk_relation.specs.Relations.{Relation}
 use Rattle.chunk_index.specs.declared.entry.Entry.{Entry}
 use Rattle.chunk_index.specs.Entries.{with_entry}
 use Rattle.chunk_index.specs.Indexes.{Index, AddsBounds}
+use Rattle.value_ids.specs.declared.pool.InHand.{InHand}
 use Rattle.value_ids.specs.Ids.{Pool, first_free_id, id_after}
 use Rattle.value_ids.specs.Faults.{IsCause}
 use Rattle.value_ids.specs.declared.fault.DrawFault.{DrawFault}
@@ -52,6 +53,17 @@ IsUnderWay Drawing = ⊤
 IsUnderWay (Putting value_id seq) = ⊤
 IsUnderWay (Indexing value_id seq tid) = ⊤
 IsUnderWay Saved = ⊥
+
+-- the id that a save has drawn, if it has
+abbrev pub id_of : SaveStage → ℕ
+id_of Drawing = 0
+id_of (Putting value_id seq) = value_id
+id_of (Indexing value_id seq tid) = value_id
+id_of Saved = 0
+
+-- what is in hand for a save once it has drawn
+abbrev pub held_by : Saving → SaveStage → InHand
+held_by save stage = record { table = save.table; session = save.session; id = id_of stage }
 
 -- the first chunks of a value, as a save puts them
 abbrev pub chunks_put : Saving → ℕ → ℕ → List Chunk
@@ -125,13 +137,6 @@ IsIndexAfter Drawing old new = new ≡ old
 IsIndexAfter (Putting value_id seq) old new = new ≡ old
 IsIndexAfter (Indexing value_id seq tid) old new = IsWithEntry old new (record { value_id = value_id; seq = seq; tid = tid })
 IsIndexAfter Saved old new = new ≡ old
-
--- the id that a save has drawn, if it has
-abbrev pub id_of : SaveStage → ℕ
-id_of Drawing = 0
-id_of (Putting value_id seq) = value_id
-id_of (Indexing value_id seq tid) = value_id
-id_of Saved = 0
 
 -- what a step answers, by where the save stands then: the pointer once it is over
 abbrev pub answer_at : Saving → ℕ → SaveStage → SaveStep

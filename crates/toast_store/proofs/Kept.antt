@@ -15,7 +15,8 @@ use Rattle.chunk_relation.specs.Chunks.{ended, is_dead_chunk}
 use Rattle.chunk_relation.specs.Relations.{Pages}
 use Rattle.chunk_relation.proofs.Events.{chunk_of-put, chunk_of-ended, chunk_of-pruned, chunk_of-reaped}
 use Rattle.chunk_index.specs.declared.entry.Entry.{Entry}
-use Rattle.chunk_index.specs.Entries.{of_id, is_listed}
+use Rattle.slot_page.specs.Tids.{is_listed}
+use Rattle.chunk_index.specs.Entries.{of_id}
 use Rattle.chunk_index.specs.Leaves.{Leaf, in_leaf}
 use Rattle.chunk_index.specs.Indexes.{is_swept}
 use Rattle.chunk_index.proofs.Inserts.{entry_was, of_id-other, of_id_has, has_of_id}

@@ -9,7 +9,8 @@ use Rattle.chunk_relation.specs.declared.chunk.Chunk.{Chunk}
 use Rattle.chunk_relation.specs.Chunks.{is_dead_chunk}
 use Rattle.chunk_relation.specs.Relations.{with_ended, with_pruned}
 use Rattle.chunk_index.specs.declared.entry.Entry.{Entry}
-use Rattle.chunk_index.specs.Entries.{is_listed, with_entry}
+use Rattle.slot_page.specs.Tids.{is_listed}
+use Rattle.chunk_index.specs.Entries.{with_entry}
 use Rattle.chunk_index.specs.Leaves.{Leaf}
 use Rattle.chunk_index.specs.Indexes.{unswept}
 use Rattle.toast_store.specs.declared.save.SaveStage.{SaveStage}

@@ -1,5 +1,5 @@
 -- Saving a value: an id is drawn, and then each piece is put as a chunk, with its entry in the log, and indexed.
-use Rattle.std.specs.Prelude.{ℕ, ◌≡◌, ◌+◌, ◌-◌, ◌*◌, ◌<◌, ◌≤◌, ◌==◌, if◌then◌else◌, Option, Some, None, List, [], ◌∷◌, ◌++◌, Contains, length, map, ⊤}
+use Rattle.std.specs.Prelude.{ℕ, ◌≡◌, ◌+◌, ◌-◌, ◌*◌, ◌<◌, ◌≤◌, nat_lt, if◌then◌else◌, Option, Some, None, List, [], ◌∷◌, ◌++◌, Contains, length, map, ⊤}
 use Rattle.std.specs.Option.{unwrap_or}
 use Rattle.std.specs.List.{range_with_len}
 use Rattle.external_pointer.specs.declared.external.Pointer.{Pointer}
@@ -97,11 +97,15 @@ drawn_id store ids save = unwrap_or (first_free_id (is_used store) ids save.tabl
 abbrev pub tuple_size : Saving → ℕ → ℕ
 tuple_size save seq = chunk_size (length (piece save.value seq))
 
+-- where a save stands once it has indexed a piece: before the next one, or at its end
+abbrev pub stage_passed : List ℕ → ℕ → ℕ → SaveStage
+stage_passed value value_id seq = if nat_lt (seq + 1) (piece_count (length value)) then Putting value_id (seq + 1) else Saved
+
 -- where a save stands after its next step
 abbrev pub stage_after : Store → Pool → Saving → SaveStage → SaveStage
 stage_after store ids save Drawing = Putting (drawn_id store ids save) 0
 stage_after store ids save (Putting value_id seq) = Indexing value_id seq (put_tid (tuple_size save seq) store.rel.pages)
-stage_after store ids save (Indexing value_id seq tid) = if seq + 1 == piece_count (length save.value) then Saved else Putting value_id (seq + 1)
+stage_after store ids save (Indexing value_id seq tid) = stage_passed save.value value_id seq
 stage_after store ids save Saved = Saved
 
 -- a draw takes the id in hand, and nothing else changes the ids

@@ -1,20 +1,27 @@
 //! Saving a value.
 
 ghost use Rattle.std.specs.Prelude.{◌≡◌, ◌≤◌, ◌<◌, IfErr, IfOk, OnErr, OnOk, length};
+ghost use Rattle.slot_page.specs.Pages.{put_tid};
+ghost use Rattle.slice_fetch.specs.Spans.{piece};
+ghost use Rattle.chunk_relation.specs.Chunks.{most_bytes};
 ghost use Rattle.toast_store.specs.Stores.{IsStore};
-ghost use Rattle.toast_store.specs.Saves.{IsIndexAfter, IsSaveCause, IsSaveProgress, IsUnderWay, IsWholeSaved, SaveStands, answer_at, id_of, ids_after, log_after, rel_after, stage_after, steps_left};
-ghost use Rattle.toast_store.specs.declared.save.SaveStage.TheVariants.{Drawing};
+ghost use Rattle.toast_store.specs.Values.{piece_count};
+ghost use Rattle.toast_store.specs.Saves.{IsIndexAfter, IsSaveCause, IsSaveProgress, IsUnderWay, IsWholeSaved, SaveStands, answer_at, id_of, ids_after, log_after, rel_after, stage_after, stage_passed, steps_left, tuple_size};
+ghost use Rattle.toast_store.specs.declared.save.SaveStage.TheVariants.{Drawing, Putting};
 
 use crate::store::ToastStore;
 use change_log::{Log, LogEntry};
 use chunk_index::Entry;
 use slice_fetch::CHUNK_SIZE;
 use slot_page::Tid;
-use std::alloc::AllocError;
+use std::alloc::{AllocError, Global};
 use std::marker::Model;
 use external_pointer::Pointer;
 use tuple_layout::Bytes;
 use value_ids::{DrawFault, IdPool};
+
+/// The toast relation of table N has N more than this as its id.
+const FIRST_TOAST_REL: u32 = 8192;
 
 /// How far a save is: what its next step does.
 #[derive(Clone, Copy, Debug, PartialEq, Eq)]
@@ -41,6 +48,8 @@ pub enum SaveStep {
 /// The saving of a value: its id is drawn; then each piece is put and logged, and then indexed.
 #[derive(Debug, Drop)]
 pub struct Save {
+    /// From here the log's copies of the pieces come.
+    alloc: Global,
     table: u16,
     session: u16,
     xid: u64,
@@ -60,12 +69,13 @@ impl Model for Save {
 
 impl Save {
     /// The saving of a value, of 21 to 65,536 bytes, by a session in the transaction with this xid.
-    pub fn new(table: u16, session: u16, xid: u64, value: Bytes) -> Self
+    pub fn new(alloc: Global, table: u16, session: u16, xid: u64, value: Bytes) -> Self
         requires least { 21 ≤ length value }
         requires most { length value ≤ 65536 }
         ensures { result ≡ record { table = table; session = session; xid = xid; value = value; stage = Drawing } }
     {
         Save {
+            alloc,
             table,
             session,
             xid,
@@ -106,6 +116,103 @@ impl Save {
         ensures log_stays { OnErr result (log.new ≡ log.old) }
         ensures sound { IsStore store.new }
     {
-        unreachable!()
+        store.facts();
+        match self.stage {
+            SaveStage::Drawing => {
+                let value_id = ids.draw(self.table, self.session, &*store)?;
+                self.stage = SaveStage::Putting { value_id, seq: 0 };
+                Ok(SaveStep::More)
+            }
+            SaveStage::Putting { value_id, seq } => {
+                let tid = self.put_piece(store, log, value_id, seq)?;
+                self.stage = SaveStage::Indexing { value_id, seq, tid };
+                Ok(SaveStep::More)
+            }
+            SaveStage::Indexing { value_id, seq, tid } => {
+                store.insert(Entry { value_id, seq, tid })?;
+                Ok(self.pass_on(value_id, seq))
+            }
+            SaveStage::Saved => unreachable!(),
+        }
     }
+
+    /// Puts a piece and its entry in the log. Where there is no memory, both stay: the piece is copied and
+    /// room in the log kept before it is put.
+    fn put_piece(
+        &self,
+        store: &mut ToastStore,
+        log: &mut Log,
+        value_id: u32,
+        seq: u32,
+    ) -> Result<Tid, AllocError>
+        requires { seq < piece_count (length self.now.value) }
+        ensures tid { IfOk result (λ tid. tid ≡ put_tid (tuple_size self.now seq) store.old.rel.pages) }
+        ensures store { OnOk result (store.new ≡ record store.old { rel = rel_after store.old.rel self.now (Putting value_id seq) }) }
+        ensures log { OnOk result (log.new ≡ log_after log.old self.now (Putting value_id seq)) }
+        ensures store_stays { OnErr result (store.new ≡ store.old) }
+        ensures log_stays { OnErr result (log.new ≡ log.old) }
+    {
+        let piece = piece_of(self.value.as_slice(), seq);
+        let bytes = Bytes::from_slice(self.alloc, piece)?;
+        log.reserve_end()?;
+        match store.put_chunk(value_id, seq, self.xid, piece) {
+            Ok(tid) => {
+                log.append_end(LogEntry::Chunk {
+                    xid: self.xid,
+                    table: self.table,
+                    value_id,
+                    seq,
+                    bytes,
+                });
+                Ok(tid)
+            }
+            Err(fault) => {
+                log.give_up_end();
+                Err(fault)
+            }
+        }
+    }
+
+    /// Goes on after a piece's entry: to the next piece, or to the end.
+    fn pass_on(&mut self, value_id: u32, seq: u32) -> SaveStep
+        requires { seq < piece_count (length self.old.value) }
+        ensures stage { self.new ≡ record self.old { stage = stage_passed self.old.value value_id seq } }
+        ensures answer { result ≡ answer_at self.old value_id self.new.stage }
+    {
+        let count = piece_count(self.value.len());
+        if seq + 1 < count {
+            self.stage = SaveStage::Putting {
+                value_id,
+                seq: seq + 1,
+            };
+            return SaveStep::More;
+        }
+        self.stage = SaveStage::Saved;
+        SaveStep::Done(Pointer {
+            size: self.value.len() as u32,
+            value_id,
+            toast_rel: FIRST_TOAST_REL + u32::from(self.table),
+        })
+    }
+}
+
+/// How many pieces a value of this many bytes has.
+fn piece_count(size: usize) -> u32
+    requires { size ≤ 65536 }
+    ensures { result ≡ piece_count size }
+{
+    (size as u32 + (CHUNK_SIZE - 1)) / CHUNK_SIZE
+}
+
+/// The piece of a value with this number.
+fn piece_of(value: &[u8], seq: u32) -> &[u8]
+    requires most { length value.now ≤ 65536 }
+    requires within { seq < piece_count (length value.now) }
+    ensures piece { result.now ≡ piece value.now seq }
+    ensures least { 1 ≤ length result.now }
+    ensures longest { length result.now ≤ most_bytes }
+{
+    let from = seq as usize * CHUNK_SIZE as usize;
+    let rest = &value[from..];
+    &rest[..rest.len().min(CHUNK_SIZE as usize)]
 }

@@ -55,6 +55,13 @@ impl ToastStore {
         })
     }
 
+    /// What is true of each store, told where a proof needs it; it does nothing.
+    pub(crate) fn facts(&self)
+        ensures { IsStore self.now }
+    {
+        let _ = &self.rel;
+    }
+
     /// The relation of the chunks.
     pub fn rel(&self) -> &ChunkRel
         ensures rel { result.now ≡ self.now.rel }

@@ -3,7 +3,8 @@ use Rattle.std.proofs.Common.{ℕ, ◌≡◌, ◌≢◌, ◌⊎◌, inl, inr, �
 use Rattle.std.specs.List.{filter_map, cons_option, list_any, range_with_len}
 use Rattle.std.specs.List.Sorted.{IsStrictlySortedBy}
 use Rattle.std.specs.Ordering.{is_lt}
-use Rattle.std.proofs.lemmas.Bool.{both_ways}
+use Rattle.std.specs.Option.{unwrap_or}
+use Rattle.std.proofs.lemmas.Bool.{ltb-false}
 use Rattle.std.proofs.lemmas.Bool.Decides.{nat_tests}
 use Rattle.std.proofs.lemmas.Option.{same_Some, none-some}
 use Rattle.std.proofs.lemmas.List.FromFn.{map-range_with_len_more}
@@ -25,12 +26,17 @@ use Rattle.chunk_index.specs.declared.entry.Entry.{Entry}
 use Rattle.chunk_index.specs.Entries.{entry_cmp, of_id, with_entry}
 use Rattle.chunk_index.proofs.Inserts.{one_more, comes_last, of_id-same, of_id_has, has_of_id}
 use Rattle.value_ids.specs.declared.pool.InHand.{InHand}
-use Rattle.value_ids.specs.Ids.{Pool, first_free_id, is_held, is_in_use}
+use Rattle.value_ids.specs.Ids.{Pool, first_free_id, id_after, is_held}
+use Rattle.value_ids.specs.Faults.{IsCause}
+use Rattle.value_ids.specs.declared.fault.DrawFault.{DrawFault}
+use Rattle.value_ids.specs.declared.fault.DrawFault.TheVariants.{NoValueId, Memory}
 use Rattle.value_ids.proofs.Drawn.{drawn_free}
 use Rattle.toast_store.specs.Stores.{Store, Names, IsStore, IsUnnamed, NamesChunk, chunks_of, named_by, is_used}
 use Rattle.toast_store.specs.Values.{Whole, Piece, piece_count, piece_in, pieces_of}
 use Rattle.toast_store.specs.Between.{Puts}
-use Rattle.toast_store.specs.Saves.{Saving, HasIndexed, HasPut, chunks_put, held_by, tuple_size}
+use Rattle.toast_store.specs.Saves.{Saving, HasIndexed, HasPut, StandsAt, SaveStands, IsSaveCause, IsWholeSaved, answer_at, ids_after, stage_after, stage_passed, tuple_size}
+use Rattle.toast_store.specs.declared.save.SaveStage.{SaveStage}
+use Rattle.toast_store.specs.declared.save.SaveStage.TheVariants.{Drawing, Putting, Indexing, Saved}
 use Rattle.toast_store.proofs.Chosen.{chosen_filter, chosen_in}
 use Rattle.toast_store.proofs.Kept.{put_leaves, id_named}
 use Rattle.toast_store.proofs.Pieces.{map-map, made_below}
@@ -153,3 +159,46 @@ whole_saved store ids save pointer stands size = record {
   chunks = ap (map piece_in) stands.chunks ∙ map-map piece_in (λ k. new_chunk pointer.value_id k save.xid (piece save.value k)) (range_with_len 0 (piece_count (length save.value)));
   size = size;
 }
+
+-- what a save relies on, by the stage that it is found in
+pub stands_here : (store : Store) (ids : Pool) (save : Saving) (stage : SaveStage) → save.stage ≡ stage → SaveStands store ids save → StandsAt store ids save stage
+stands_here store ids save stage at stands = subst (λ s. StandsAt store ids save s) at stands
+
+-- a draw that is refused tells why
+pub drawn_cause : (store : Store) (ids : Pool) (save : Saving) (fault : DrawFault) → save.stage ≡ Drawing → IsCause (is_used store) ids save.table fault → IsSaveCause store ids save fault
+drawn_cause store ids save (NoValueId in_use) at cause = (at, cause)
+drawn_cause store ids save Memory at cause = tt
+
+-- it does not change with the stage alone
+pub indexed_at : (store : Store) (ids : Pool) (save : Saving) (value_id n : ℕ) (stage : SaveStage) → HasIndexed store ids save value_id n → HasIndexed store ids (record save { stage = stage }) value_id n
+indexed_at store ids save value_id n stage has = record { in_hand = has.in_hand; chunks = has.chunks }
+
+pub put_at : (store : Store) (save : Saving) (value_id seq : ℕ) (tid : Tid) (stage : SaveStage) → HasPut store save value_id seq tid → HasPut store (record save { stage = stage }) value_id seq tid
+put_at store save value_id seq tid stage has = record { chunk = has.chunk; unnamed = has.unnamed }
+
+-- where a draw leads, and what is in hand then
+pub drawn_stage : (store : Store) (ids : Pool) (save : Saving) (value_id : ℕ) → save.stage ≡ Drawing → first_free_id (is_used store) ids save.table ≡ Some value_id → Putting value_id 0 ≡ stage_after store ids save save.stage
+drawn_stage store ids save value_id at drawn = sym (ap (stage_after store ids save) at ∙ ap (λ o. Putting (unwrap_or o 0) 0) drawn)
+
+pub drawn_ids : (store : Store) (ids later : Pool) (save : Saving) (value_id : ℕ) → save.stage ≡ Drawing → first_free_id (is_used store) ids save.table ≡ Some value_id
+    → later ≡ record ids { next = id_after ids value_id; in_hand = ids.in_hand ++ (record { table = save.table; session = save.session; id = value_id }) ∷ [] } → later ≡ ids_after store ids save save.stage
+drawn_ids store ids later save value_id at drawn taken =
+    taken ∙ sym (ap (ids_after store ids save) at ∙ ap (λ o. record ids { next = id_after ids (unwrap_or o 0); in_hand = ids.in_hand ++ (record { table = save.table; session = save.session; id = unwrap_or o 0 }) ∷ [] }) drawn)
+
+-- after a piece's entry a save goes on to the next piece, or has ended
+pub passed_stands : (store : Store) (ids : Pool) (save : Saving) (value_id seq : ℕ) → HasIndexed store ids save value_id (seq + 1) → SaveStands store ids (record save { stage = stage_passed save.value value_id seq })
+passed_stands store ids save value_id seq has = by_test (nat_lt (seq + 1) (piece_count (length save.value)))
+  where
+    by_test : (b : Bool) → SaveStands store ids (record save { stage = cond b (Putting value_id (seq + 1)) Saved })
+    by_test true = indexed_at store ids save value_id (seq + 1) (Putting value_id (seq + 1)) has
+    by_test false = tt
+
+-- at its end the value is whole
+pub passed_whole : (store : Store) (ids : Pool) (save : Saving) (value_id seq : ℕ) → seq < piece_count (length save.value) → HasIndexed store ids save value_id (seq + 1) → IsWholeSaved store save.value (answer_at save value_id (stage_passed save.value value_id seq))
+passed_whole store ids save value_id seq within has = by_test (nat_lt (seq + 1) (piece_count (length save.value))) refl
+  where
+    by_test : (b : Bool) → nat_lt (seq + 1) (piece_count (length save.value)) ≡ b → IsWholeSaved store save.value (answer_at save value_id (cond b (Putting value_id (seq + 1)) Saved))
+    by_test true is = tt
+    by_test false is =
+        let last : seq + 1 ≡ piece_count (length save.value) = omega (arith, within, ltb-false (seq + 1) (piece_count (length save.value)) is) in
+        whole_saved store ids save (record { size = length save.value; value_id = value_id; toast_rel = 8192 + save.table }) (subst (λ n. HasIndexed store ids save value_id n) last has) refl

@@ -4,7 +4,6 @@ ghost use Rattle.std.specs.Prelude.{◌≡◌, ◌≤◌, ◌<◌, IfErr, IfOk, 
 ghost use Rattle.slot_page.specs.Pages.{put_tid};
 ghost use Rattle.slice_fetch.specs.Spans.{piece};
 ghost use Rattle.chunk_relation.specs.Chunks.{most_bytes};
-ghost use Rattle.toast_store.specs.Stores.{IsStore};
 ghost use Rattle.toast_store.specs.Values.{piece_count};
 ghost use Rattle.toast_store.specs.Saves.{IsIndexAfter, IsSaveCause, IsSaveProgress, IsUnderWay, IsWholeSaved, SaveStands, answer_at, id_of, ids_after, log_after, rel_after, stage_after, stage_passed, steps_left, tuple_size};
 ghost use Rattle.toast_store.specs.declared.save.SaveStage.TheVariants.{Drawing, Putting};
@@ -114,7 +113,6 @@ impl Save {
         ensures store_stays { OnErr result (store.new ≡ store.old) }
         ensures ids_stay { OnErr result (ids.new ≡ ids.old) }
         ensures log_stays { OnErr result (log.new ≡ log.old) }
-        ensures sound { IsStore store.new }
     {
         store.facts();
         match self.stage {

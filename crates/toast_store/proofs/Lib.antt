@@ -4,3 +4,9 @@ pub mod Chosen
 pub mod Kept
 pub mod Pieces
 pub mod Saving
+pub mod OwnLeaf
+pub mod Walked
+pub mod Outcomes
+pub mod Marking
+pub mod Spans
+pub mod Wholes

@@ -1,5 +1,5 @@
 -- A walk through the entries of a value, batch by batch: the leaf of a batch stays pinned while its entries are taken.
-use Rattle.std.specs.Prelude.{ℕ, ◌≡◌, ◌+◌, ◌-◌, ◌*◌, ◌<◌, Bool, nat_lt, max, if◌then◌else◌, Option, Some, None, List, [], ◌∷◌, ◌++◌, length, drop, slice_get, ⊤}
+use Rattle.std.specs.Prelude.{ℕ, ◌≡◌, ◌+◌, ◌-◌, ◌*◌, ◌<◌, ◌≤◌, Bool, true, false, nat_lt, max, if◌then◌else◌, Option, None, List, [], ◌∷◌, ◌++◌, length, drop, slice_get, ⊤}
 use Rattle.chunk_index.specs.declared.entry.Entry.{Entry}
 use Rattle.chunk_index.specs.Entries.{wanted_of}
 use Rattle.chunk_index.specs.Pinned.{pin_of, without_pin}
@@ -33,6 +33,27 @@ IsUnderWay (Asking after) = ⊤
 IsUnderWay (Reading batch at) = ⊤
 IsUnderWay Over = ⊥
 
+-- its next step takes an entry of a batch
+abbrev pub IsReading : WalkStage → Type 0
+IsReading Empty = ⊥
+IsReading (Asking after) = ⊥
+IsReading (Reading batch at) = ⊤
+IsReading Over = ⊥
+
+-- its next step takes none: it asks for a batch, or has nothing to ask for
+abbrev pub IsAsking : WalkStage → Type 0
+IsAsking Empty = ⊤
+IsAsking (Asking after) = ⊤
+IsAsking (Reading batch at) = ⊥
+IsAsking Over = ⊥
+
+-- whether a walk has ended
+abbrev pub is_over : WalkStage → Bool
+is_over Empty = false
+is_over (Asking after) = false
+is_over (Reading batch at) = false
+is_over Over = true
+
 -- who asks for a batch holds no pin
 abbrev pub MayAsk : Index → ℕ → WalkStage → Type 0
 MayAsk index session Empty = ⊤
@@ -40,7 +61,17 @@ MayAsk index session (Asking after) = pin_of index.pins session ≡ None
 MayAsk index session (Reading batch at) = ⊤
 MayAsk index session Over = ⊤
 
--- the entries of an index that a walk wants beyond one
+-- a walk has a step left, and may make it
+abbrev pub CanStep : Index → Walking → Type 0
+CanStep index walk = IsUnderWay walk.stage × MayAsk index walk.session walk.stage
+
+-- an entry is of the value that a walk goes through, with one of the walk's numbers
+pub record IsOfWalk (walk : Walking) (e : Entry) : Type 0 where
+  pub of_value : e.value_id ≡ walk.value_id
+  pub from_first : walk.first ≤ e.seq
+  pub before_end : e.seq < walk.end
+
+-- the entries of an index that a walk over some number wants beyond one
 abbrev pub wanted_by : Walking → Option Entry → List Entry → List Entry
 wanted_by walk after entries = wanted_of walk.value_id walk.first (walk.end - 1) after entries
 

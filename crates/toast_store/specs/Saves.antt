@@ -169,6 +169,11 @@ abbrev pub IsWholeSaved : Store → List ℕ → SaveStep → Type 0
 IsWholeSaved store value More = ⊤
 IsWholeSaved store value (Done pointer) = Whole store pointer value
 
+-- a save with steps left may make the next one
+abbrev pub IsSaveReady : Saving → SaveStep → Type 0
+IsSaveReady save More = IsUnderWay save.stage
+IsSaveReady save (Done pointer) = save.stage ≡ Saved
+
 -- a step that leaves some steps has taken one of them
 abbrev pub IsSaveProgress : ℕ → ℕ → SaveStep → Type 0
 IsSaveProgress before after More = (0 < after) × (after < before)

@@ -5,7 +5,7 @@ ghost use Rattle.slot_page.specs.Pages.{put_tid};
 ghost use Rattle.slice_fetch.specs.Spans.{piece};
 ghost use Rattle.chunk_relation.specs.Chunks.{most_bytes};
 ghost use Rattle.toast_store.specs.Values.{piece_count};
-ghost use Rattle.toast_store.specs.Saves.{IsIndexAfter, IsSaveCause, IsSaveProgress, IsUnderWay, IsWholeSaved, SaveStands, answer_at, id_of, ids_after, log_after, rel_after, stage_after, stage_passed, steps_left, tuple_size};
+ghost use Rattle.toast_store.specs.Saves.{IsIndexAfter, IsSaveCause, IsSaveProgress, IsSaveReady, IsUnderWay, IsWholeSaved, SaveStands, answer_at, id_of, ids_after, log_after, rel_after, stage_after, stage_passed, steps_left, tuple_size};
 ghost use Rattle.toast_store.specs.declared.save.SaveStage.TheVariants.{Drawing, Putting};
 
 use crate::store::ToastStore;
@@ -106,6 +106,7 @@ impl Save {
         ensures log { OnOk result (log.new ≡ log_after log.old self.old self.old.stage) }
         ensures answer { IfOk result (λ step. step ≡ answer_at self.old (id_of self.old.stage) self.new.stage) }
         ensures stands { OnOk result (SaveStands store.new ids.new self.new) }
+        ensures ready { IfOk result (IsSaveReady self.new) }
         ensures whole { IfOk result (IsWholeSaved store.new self.old.value) }
         ensures left { IfOk result (IsSaveProgress (steps_left self.old) (steps_left self.new)) }
         ensures cause { IfErr result (IsSaveCause store.old ids.old self.old) }

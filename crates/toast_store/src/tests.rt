@@ -1,18 +1,20 @@
-ghost use Rattle.std.specs.Prelude.{◌≡◌, ◌≤◌, ◌<◌, [], None, IfOk, length};
-ghost use Rattle.slot_page.specs.Slots.{IsNormal};
-ghost use Rattle.slot_page.specs.Pages.{slot_of};
-ghost use Rattle.toast_store.specs.Stores.{IsUnnamed};
+ghost use Rattle.std.specs.Prelude.{◌≡◌, ◌≤◌, [], ◌∷◌, Some, IfOk, length};
+ghost use Rattle.slot_page.specs.Pages.{item_in};
+ghost use Rattle.xact_status.specs.Xacts.{Xacts, next_xid};
+ghost use Rattle.chunk_relation.specs.Chunks.{new_chunk};
+ghost use Rattle.chunk_relation.specs.Relations.{AreAssigned};
 ghost use Rattle.toast_store.specs.Saves.{IsUnderWay, SaveStands};
 
-use crate::{Save, SaveStep, ToastStore};
+use crate::{Save, SaveStep, TidList, ToastStore};
 use change_log::{Log, LogEntry};
-use chunk_index::Entry;
+use chunk_index::{Entry, Swept};
 use external_pointer::{Pointer, write_pointer};
 use slot_page::Tid;
 use std::alloc::{AllocError, Global};
 use std::process::Abort;
 use tuple_layout::Bytes;
 use value_ids::{DrawFault, IdPool, IdTest};
+use xact_status::XactTable;
 
 /// A value of so many bytes, no two of whose pieces are the same.
 fn value_of(alloc: Global, len: usize) -> Result<Bytes, AllocError>
@@ -182,5 +184,74 @@ fn an_id_with_chunks_is_passed_over(rt: HostRuntime) -> Result<(), DrawFault> {
     assert!(rt; ids.draw(1, 1, &store)? == 16385);
     let full = saved(alloc, &mut store, &mut ids, &mut log, 30);
     assert!(rt; full == Err(DrawFault::NoValueId { in_use: 2 }));
+    Ok(())
+}
+
+/// A store with one chunk, of id 16384 and number 0, that transaction 3 has put, and no entry.
+fn with_chunk(alloc: Global) -> Result<(ToastStore, Tid), AllocError>
+    ensures entries { IfOk result (λ made. made.0.index.entries ≡ []) }
+    ensures pins { IfOk result (λ made. made.0.index.pins ≡ []) }
+    ensures chunk { IfOk result (λ made. item_in made.0.rel.pages made.1 ≡ Some (new_chunk 16384 0 3 (1 ∷ 2 ∷ 3 ∷ []))) }
+    ensures assigned { IfOk result (λ made. (xacts : Xacts) → 4 ≤ next_xid xacts → AreAssigned xacts made.0.rel.pages) }
+{
+    let mut store = ToastStore::new(alloc, 8193)?;
+    let tid = store.put_chunk(16384, 0, 3, &[1, 2, 3])?;
+    Ok((store, tid))
+}
+
+#[test]
+fn a_pinned_leaf_is_swept_once_it_is_unpinned(rt: HostRuntime) -> Result<(), AllocError> {
+    let alloc = rt.alloc();
+    let (mut store, tid) = with_chunk(alloc)?;
+    let entry = Entry {
+        value_id: 16384,
+        seq: 0,
+        tid,
+    };
+    assert!(rt; !store.used(16384));
+    store.insert(entry)?;
+    store.set_ender(tid, 4);
+    // An ended chunk still uses its id.
+    assert!(rt; store.used(16384));
+    let batch = store.batch(16384, 0, 0, None, 1)?;
+    assert!(rt; batch.entries.as_slice() == &[entry][..] && !batch.more);
+    let dead = TidList::from_slice(alloc, &[tid])?;
+    assert!(rt; store.sweep_leaf(None, &dead) == Swept::Pinned { holder: 1 });
+    store.unpin(1);
+    assert!(rt; store.sweep_leaf(None, &dead) == Swept::End { removed: 1 });
+    assert!(rt; !store.used(16384));
+    Ok(())
+}
+
+/// Prunes the first page of a store with one chunk and no entry, and frees its slot.
+fn prune_and_reap(
+    rt: &impl Abort,
+    alloc: Global,
+    store: &mut ToastStore,
+    xacts: &XactTable,
+) -> Result<u32, AllocError>
+    requires entries { store.old.index.entries ≡ [] }
+    requires assigned { 4 ≤ next_xid xacts.now → AreAssigned xacts.now store.old.rel.pages }
+{
+    assert!(rt; xacts.next() > 3 && store.rel().pages() > 0);
+    let mut dead = TidList::new(alloc);
+    let count = store.prune_page(0, xacts, 4, &mut dead)?;
+    if let Some(tid) = dead.get(0) {
+        store.reap(*tid);
+    }
+    Ok(count)
+}
+
+#[test]
+fn a_chunk_of_an_aborted_transaction_goes(rt: HostRuntime) -> Result<(), AllocError> {
+    let alloc = rt.alloc();
+    let mut xacts = XactTable::new(alloc);
+    let xid = xacts.assign(1)?;
+    assert!(rt; xacts.running().contains(&xid));
+    xacts.abort(xid);
+    let (mut store, tid) = with_chunk(alloc)?;
+    assert!(rt; prune_and_reap(&rt, alloc, &mut store, &xacts)? == 1);
+    assert!(rt; store.rel().chunk_at(tid).is_none());
+    assert!(rt; store.put_chunk(16385, 0, 4, &[4])? == tid);
     Ok(())
 }

@@ -103,28 +103,29 @@ end_leaves_unnamed old new tid u xid ends other = record {
   unnamed = λ free. subst (λ es. IsUnnamed es u) (sym ends.entries) free;
 }
 
--- whatever chunk is ended, a whole value stays whole
+-- whatever chunk is ended, each slot has the piece that it had
+ended_piece : (xid : ℕ) (line : LinePointer Chunk) → option_map piece_in (item_of (ended xid line)) ≡ option_map piece_in (item_of line)
+ended_piece xid (Normal size chunk) = refl
+ended_piece xid Dead = refl
+ended_piece xid Unused = refl
+
+pub same_piece : (old new : Store) (tid : Tid) (xid : ℕ) → Ends old new tid xid → (t : Tid) → option_map piece_in (item_in new.rel.pages t) ≡ option_map piece_in (item_in old.rel.pages t)
+same_piece old new tid xid ends t = ap (λ pages. option_map piece_in (item_in pages t)) ends.pages ∙ elim (chunk_of-ended xid old.rel.pages tid t) [
+  | inl same ↦ ap (option_map piece_in) same
+  | inr h ↦ ap (option_map piece_in) h.1 ∙ ended_piece xid (slot_of old.rel.pages tid) ∙ ap (λ u. option_map piece_in (item_in old.rel.pages u)) (sym h.0)
+]
+
+-- so a whole value stays whole
 pub end_keeps_whole : (old new : Store) (tid : Tid) (xid : ℕ) (pointer : Pointer) (value : List ℕ) → Ends old new tid xid → Whole old pointer value → Whole new pointer value
 end_keeps_whole old new tid xid pointer value ends whole = record {
   chunks =
       ap (λ es. map piece_in (named_by new.rel.pages (of_id pointer.value_id es))) ends.entries
       ∙ chosen_map piece_in (λ (e : Entry). item_in new.rel.pages e.tid) (of_id pointer.value_id old.index.entries)
-      ∙ chosen_agree (λ (e : Entry). option_map piece_in (item_in new.rel.pages e.tid)) (λ (e : Entry). option_map piece_in (item_in old.rel.pages e.tid)) (of_id pointer.value_id old.index.entries) (λ e held. same_piece e)
+      ∙ chosen_agree (λ (e : Entry). option_map piece_in (item_in new.rel.pages e.tid)) (λ (e : Entry). option_map piece_in (item_in old.rel.pages e.tid)) (of_id pointer.value_id old.index.entries) (λ e held. same_piece old new tid xid ends e.tid)
       ∙ sym (chosen_map piece_in (λ (e : Entry). item_in old.rel.pages e.tid) (of_id pointer.value_id old.index.entries))
       ∙ whole.chunks;
   size = whole.size;
 }
-  where
-    piece_of : (line : LinePointer Chunk) → option_map piece_in (item_of (ended xid line)) ≡ option_map piece_in (item_of line)
-    piece_of (Normal size chunk) = refl
-    piece_of Dead = refl
-    piece_of Unused = refl
-
-    same_piece : (e : Entry) → option_map piece_in (item_in new.rel.pages e.tid) ≡ option_map piece_in (item_in old.rel.pages e.tid)
-    same_piece e = ap (λ pages. option_map piece_in (item_in pages e.tid)) ends.pages ∙ elim (chunk_of-ended xid old.rel.pages tid e.tid) [
-      | inl same ↦ ap (option_map piece_in) same
-      | inr h ↦ ap (option_map piece_in) h.1 ∙ piece_of (slot_of old.rel.pages tid) ∙ ap (λ t. option_map piece_in (item_in old.rel.pages t)) (sym h.0)
-    ]
 
 -- a prune leaves a value none of whose chunks is dead under its horizon
 pub prune_leaves : (old new : Store) (xacts : Xacts) (horizon page value_id : ℕ) → Prunes old new xacts horizon page → IsSpared old value_id xacts horizon → LeavesValue value_id old new
@@ -153,15 +154,16 @@ second true true h = refl
 second true false h = absurd (cc)
 second false b h = absurd (cc)
 
+-- an entry that a sweep takes is listed
+pub swept_listed : (bounds : List Entry) (leaf : Leaf) (dead : List Tid) (e : Entry) → not (is_swept bounds leaf dead e) ≡ false → is_listed dead e.tid ≡ true
+swept_listed bounds leaf dead e taken = second (in_leaf bounds leaf e) (is_listed dead e.tid) taken
+
 -- a sweep of entries whose slots have no chunk leaves each value
 pub sweep_leaves : (old new : Store) (leaf : Leaf) (dead : List Tid) (value_id : ℕ) → Sweeps old new leaf dead → LeavesValue value_id old new
 sweep_leaves old new leaf dead value_id sweeps =
     ap (λ pages. named_by pages (of_id value_id new.index.entries)) sweeps.pages
     ∙ ap (λ es. named_by old.rel.pages (of_id value_id es)) sweeps.entries
-    ∙ chosen_filters (λ (e : Entry). item_in old.rel.pages e.tid) (λ (e : Entry). e.value_id == value_id) (λ (e : Entry). not (is_swept old.index.bounds leaf dead e)) old.index.entries (λ e held taken. sweeps.gone e.tid (listed e taken))
-  where
-    listed : (e : Entry) → not (is_swept old.index.bounds leaf dead e) ≡ false → is_listed dead e.tid ≡ true
-    listed e taken = second (in_leaf old.index.bounds leaf e) (is_listed dead e.tid) taken
+    ∙ chosen_filters (λ (e : Entry). item_in old.rel.pages e.tid) (λ (e : Entry). e.value_id == value_id) (λ (e : Entry). not (is_swept old.index.bounds leaf dead e)) old.index.entries (λ e held taken. sweeps.gone e.tid (swept_listed old.index.bounds leaf dead e taken))
 
 pub sweep_leaves_unnamed : (old new : Store) (leaf : Leaf) (dead : List Tid) (tid : Tid) → Sweeps old new leaf dead → LeavesUnnamed tid old new
 sweep_leaves_unnamed old new leaf dead tid sweeps = record {

@@ -10,3 +10,4 @@ pub mod Outcomes
 pub mod Marking
 pub mod Spans
 pub mod Wholes
+pub mod Ahead

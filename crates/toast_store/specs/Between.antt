@@ -1,5 +1,5 @@
 -- What others may do to a store between two steps of a job, each as the store before and after it.
-use Rattle.std.specs.Prelude.{ℕ, ◌≡◌, ◌≢◌, true, false, Some, None, List, Contains, ⊤}
+use Rattle.std.specs.Prelude.{ℕ, ◌≡◌, ◌≢◌, true, false, Some, None, List, [], Contains, drop, ⊤}
 use Rattle.slot_page.specs.declared.line.Tid.{Tid}
 use Rattle.slot_page.specs.declared.line.LinePointer.TheVariants.{Unused}
 use Rattle.slot_page.specs.Slots.{IsDead}
@@ -15,7 +15,10 @@ use Rattle.chunk_index.specs.Leaves.{Leaf}
 use Rattle.chunk_index.specs.Indexes.{unswept}
 use Rattle.toast_store.specs.declared.save.SaveStage.{SaveStage}
 use Rattle.toast_store.specs.declared.save.SaveStage.TheVariants.{Drawing, Putting, Indexing, Saved}
-use Rattle.toast_store.specs.Stores.{Store, IsUnnamed, NamesChunk, chunks_of}
+use Rattle.toast_store.specs.declared.walk.WalkStage.{WalkStage}
+use Rattle.toast_store.specs.declared.walk.WalkStage.TheVariants.{Empty, Asking, Reading, Over}
+use Rattle.toast_store.specs.Stores.{Store, Names, IsUnnamed, NamesChunk, chunks_of, named_by}
+use Rattle.toast_store.specs.Walks.{Walking, ahead}
 
 -- the value with an id is as it was: the same chunks under it
 abbrev pub LeavesValue : ℕ → Store → Store → Type 0
@@ -74,3 +77,22 @@ pub record Pins (old new : Store) : Type 0 where
 -- no chunk of a value is dead under a horizon
 pub record IsSpared (store : Store) (value_id : ℕ) (xacts : Xacts) (horizon : ℕ) : Type 0 where
   pub each : (chunk : Chunk) → Contains (chunks_of store value_id) chunk → is_dead_chunk xacts horizon chunk ≡ false
+
+-- the entries of its batch that a walk has still to take
+abbrev pub batch_left : WalkStage → List Entry
+batch_left Empty = []
+batch_left (Asking after) = []
+batch_left (Reading batch at) = drop at batch.entries
+batch_left Over = []
+
+-- each of them names a chunk of its id and number or a dead slot
+pub record IsBatchNamed (store : Store) (walk : Walking) : Type 0 where
+  pub each : (e : Entry) → Contains (batch_left walk.stage) e → Names e (slot_of store.rel.pages e.tid)
+
+-- the chunks that a walk still comes to are as they were
+abbrev pub LeavesAhead : Walking → Store → Store → Type 0
+LeavesAhead walk old new = named_by new.rel.pages (ahead new.index.entries walk) ≡ named_by old.rel.pages (ahead old.index.entries walk)
+
+-- none of them is dead under a horizon
+pub record IsAheadSpared (store : Store) (walk : Walking) (xacts : Xacts) (horizon : ℕ) : Type 0 where
+  pub each : (chunk : Chunk) → Contains (named_by store.rel.pages (ahead store.index.entries walk)) chunk → is_dead_chunk xacts horizon chunk ≡ false

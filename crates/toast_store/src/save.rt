@@ -11,11 +11,11 @@ ghost use Rattle.toast_store.specs.declared.save.SaveStage.TheVariants.{Drawing,
 use crate::store::ToastStore;
 use change_log::{Log, LogEntry};
 use chunk_index::Entry;
+use external_pointer::Pointer;
 use slice_fetch::CHUNK_SIZE;
 use slot_page::Tid;
 use std::alloc::{AllocError, Global};
 use std::marker::Model;
-use external_pointer::Pointer;
 use tuple_layout::Bytes;
 use value_ids::{DrawFault, IdPool};
 

@@ -85,13 +85,15 @@ fn names(store: &ToastStore, entry: Entry, seq: usize, bytes: &[u8]) -> bool {
 /// Whether a log's entry is that of a piece with these bytes.
 fn logs(entry: Option<&LogEntry>, id: u32, number: usize, piece: &[u8]) -> bool {
     match entry {
-        Some(LogEntry::Chunk {
-            xid,
-            table,
-            value_id,
-            seq,
-            bytes,
-        }) => {
+        Some(
+            LogEntry::Chunk {
+                xid,
+                table,
+                value_id,
+                seq,
+                bytes,
+            },
+        ) => {
             *xid == 3
                 && *table == 1
                 && *value_id == id
@@ -129,10 +131,12 @@ fn is_saved(alloc: Global, len: usize) -> Result<bool, DrawFault>
     let mut log = Log::new(alloc);
     let pointer = saved(alloc, &mut store, &mut ids, &mut log, len)?;
     let value = value_of(alloc, len)?;
-    Ok(pointer.size as usize == len
-        && pointer.value_id == 16384
-        && pointer.toast_rel == 8193
-        && has_pieces(&store, &log, 16384, value.as_slice()))
+    Ok(
+        pointer.size as usize == len
+            && pointer.value_id == 16384
+            && pointer.toast_rel == 8193
+            && has_pieces(&store, &log, 16384, value.as_slice()),
+    )
 }
 
 #[test]

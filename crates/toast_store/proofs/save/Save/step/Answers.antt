@@ -18,7 +18,7 @@ handed_on (Err e) P fault is h = subst P (sym is) h
 pub returns-in_err-value_id-in-Drawing-clause-cause : goal.returns-in_err-value_id-in-Drawing-clause-cause
 returns-in_err-value_id-in-Drawing-clause-cause c =
     subst (λ (s : Saving). IfErr c.from_residual.result (IsSaveCause c.args.store.now c.args.ids.now s)) c.self.view_is
-      (handed_on c.from_residual.result _ _ c.from_residual.ensures.1 (drawn_cause c.args.store.now c.args.ids.now (the_view c.self.inside) _ c.in-Drawing.is c.in_err-value_id-in-Drawing.ensures.cause))
+    (handed_on c.from_residual.result _ _ c.from_residual.ensures.1 (drawn_cause c.args.store.now c.args.ids.now (the_view c.self.inside) _ c.in-Drawing.is c.in_err-value_id-in-Drawing.ensures.cause))
 
 pub insert-requires-clause-absent : goal.insert-requires-clause-absent
 insert-requires-clause-absent c =
@@ -34,25 +34,24 @@ pub returns-in_ok-value_id-in-Drawing-clause-stage : goal.returns-in_ok-value_id
 returns-in_ok-value_id-in-Drawing-clause-stage c =
     let drawn : SaveStage = Putting c.in_ok-value_id-in-Drawing.value_id 0 in
     subst (λ (s : Saving). record (the_view c.self.inside) { stage = drawn } ≡ record s { stage = stage_after c.args.store.now c.args.ids.now s s.stage }) c.self.view_is
-      (ap (λ stage. record (the_view c.self.inside) { stage = stage }) (drawn_stage c.args.store.now c.args.ids.now (the_view c.self.inside) c.in_ok-value_id-in-Drawing.value_id c.in-Drawing.is c.in_ok-value_id-in-Drawing.ensures.id))
+    (ap (λ stage. record (the_view c.self.inside) { stage = stage }) (drawn_stage c.args.store.now c.args.ids.now (the_view c.self.inside) c.in_ok-value_id-in-Drawing.value_id c.in-Drawing.is c.in_ok-value_id-in-Drawing.ensures.id))
 
 pub returns-in_ok-value_id-in-Drawing-clause-ids : goal.returns-in_ok-value_id-in-Drawing-clause-ids
 returns-in_ok-value_id-in-Drawing-clause-ids c =
     subst (λ (s : Saving). c.draw.new.self ≡ ids_after c.args.store.now c.args.ids.now s s.stage) c.self.view_is
-      (drawn_ids c.args.store.now c.args.ids.now c.draw.new.self (the_view c.self.inside) c.in_ok-value_id-in-Drawing.value_id c.in-Drawing.is c.in_ok-value_id-in-Drawing.ensures.id c.in_ok-value_id-in-Drawing.ensures.taken)
+    (drawn_ids c.args.store.now c.args.ids.now c.draw.new.self (the_view c.self.inside) c.in_ok-value_id-in-Drawing.value_id c.in-Drawing.is c.in_ok-value_id-in-Drawing.ensures.id c.in_ok-value_id-in-Drawing.ensures.taken)
 
 pub returns-in_ok-value_id-in-Drawing-clause-stands : goal.returns-in_ok-value_id-in-Drawing-clause-stands
 returns-in_ok-value_id-in-Drawing-clause-stands c =
     indexed_at c.args.store.now c.draw.new.self (the_view c.self.inside) c.in_ok-value_id-in-Drawing.value_id 0 (Putting c.in_ok-value_id-in-Drawing.value_id 0)
-      (stands_drawn c.args.store.now c.args.ids.now c.draw.new.self (the_view c.self.inside) c.in_ok-value_id-in-Drawing.value_id c.in_ok-value_id-in-Drawing.ensures.id (ap (λ (p : Pool). p.in_hand) c.in_ok-value_id-in-Drawing.ensures.taken))
+    (stands_drawn c.args.store.now c.args.ids.now c.draw.new.self (the_view c.self.inside) c.in_ok-value_id-in-Drawing.value_id c.in_ok-value_id-in-Drawing.ensures.id (ap (λ (p : Pool). p.in_hand) c.in_ok-value_id-in-Drawing.ensures.taken))
 
 pub returns-in_ok-tid-in-Putting-clause-stands : goal.returns-in_ok-tid-in-Putting-clause-stands
 returns-in_ok-tid-in-Putting-clause-stands c =
     let at = ap (λ (s : Saving). s.stage) (sym c.self.view_is) ∙ c.in-Putting.is in
     let here = stands_here c.args.store.now c.args.ids.now c.args.self.now (Putting c.in-Putting.value_id c.in-Putting.seq) at c.requires.stands in
     let next : SaveStage = Indexing c.in-Putting.value_id c.in-Putting.seq c.in_ok-tid-in-Putting.tid in
-    let after = stands_put c.args.store.now c.put_piece.new.store c.args.ids.now c.args.self.now c.in-Putting.value_id c.in-Putting.seq c.in_ok-tid-in-Putting.tid c.facts.ensures (record { pages = ap (λ (s : Store). s.rel.pages) c.in_ok-tid-in-Putting.ensures.store; entries = ap (λ (s : Store). s.index.entries) c.in_ok-tid-in-Putting.ensures.store }) c.in_ok-tid-in-Putting.ensures.tid here in
-    (
+    let after = stands_put c.args.store.now c.put_piece.new.store c.args.ids.now c.args.self.now c.in-Putting.value_id c.in-Putting.seq c.in_ok-tid-in-Putting.tid c.facts.ensures (record { pages = ap (λ (s : Store). s.rel.pages) c.in_ok-tid-in-Putting.ensures.store; entries = ap (λ (s : Store). s.index.entries) c.in_ok-tid-in-Putting.ensures.store }) c.in_ok-tid-in-Putting.ensures.tid here in (
       subst (λ (s : Saving). HasIndexed c.put_piece.new.store c.args.ids.now (record s { stage = next }) c.in-Putting.value_id c.in-Putting.seq) (sym c.self.view_is) (indexed_at c.put_piece.new.store c.args.ids.now c.args.self.now c.in-Putting.value_id c.in-Putting.seq next after.0),
       subst (λ (s : Saving). HasPut c.put_piece.new.store (record s { stage = next }) c.in-Putting.value_id c.in-Putting.seq c.in_ok-tid-in-Putting.tid) (sym c.self.view_is) (put_at c.put_piece.new.store c.args.self.now c.in-Putting.value_id c.in-Putting.seq c.in_ok-tid-in-Putting.tid next after.1),
     )
@@ -62,7 +61,7 @@ returns-in_ok-insert-in-Indexing-clause-stands c =
     let at = ap (λ (s : Saving). s.stage) (sym c.self.view_is) ∙ c.in-Indexing.is in
     let here = stands_here c.args.store.now c.args.ids.now c.args.self.now (Indexing c.in-Indexing.value_id c.in-Indexing.seq c.in-Indexing.tid) at c.requires.stands in
     subst (λ (s : Saving). SaveStands c.insert.new.self c.args.ids.now s) (sym c.pass_on.ensures.stage)
-      (passed_stands c.insert.new.self c.args.ids.now c.args.self.now c.in-Indexing.value_id c.in-Indexing.seq (stands_indexed c.args.store.now c.insert.new.self c.args.ids.now c.args.self.now c.in-Indexing.value_id c.in-Indexing.seq c.in-Indexing.tid c.facts.ensures c.in_ok-insert-in-Indexing.ensures.rel c.in_ok-insert-in-Indexing.ensures.entries here.0 here.1))
+    (passed_stands c.insert.new.self c.args.ids.now c.args.self.now c.in-Indexing.value_id c.in-Indexing.seq (stands_indexed c.args.store.now c.insert.new.self c.args.ids.now c.args.self.now c.in-Indexing.value_id c.in-Indexing.seq c.in-Indexing.tid c.facts.ensures c.in_ok-insert-in-Indexing.ensures.rel c.in_ok-insert-in-Indexing.ensures.entries here.0 here.1))
 
 pub returns-in_ok-insert-in-Indexing-clause-whole : goal.returns-in_ok-insert-in-Indexing-clause-whole
 returns-in_ok-insert-in-Indexing-clause-whole c =
@@ -70,4 +69,4 @@ returns-in_ok-insert-in-Indexing-clause-whole c =
     let here = stands_here c.args.store.now c.args.ids.now c.args.self.now (Indexing c.in-Indexing.value_id c.in-Indexing.seq c.in-Indexing.tid) at c.requires.stands in
     let within = subst (λ (s : Saving). c.in-Indexing.seq < piece_count (length s.value)) c.self.view_is (subst (IsStage c.self.inside.value) c.in-Indexing.is c.self.invariant.stage) in
     subst (λ step. IsWholeSaved c.insert.new.self c.args.self.now.value step) (sym (c.pass_on.ensures.answer ∙ ap (λ (s : Saving). answer_at c.args.self.now c.in-Indexing.value_id s.stage) c.pass_on.ensures.stage))
-      (passed_whole c.insert.new.self c.args.ids.now c.args.self.now c.in-Indexing.value_id c.in-Indexing.seq within (stands_indexed c.args.store.now c.insert.new.self c.args.ids.now c.args.self.now c.in-Indexing.value_id c.in-Indexing.seq c.in-Indexing.tid c.facts.ensures c.in_ok-insert-in-Indexing.ensures.rel c.in_ok-insert-in-Indexing.ensures.entries here.0 here.1))
+    (passed_whole c.insert.new.self c.args.ids.now c.args.self.now c.in-Indexing.value_id c.in-Indexing.seq within (stands_indexed c.args.store.now c.insert.new.self c.args.ids.now c.args.self.now c.in-Indexing.value_id c.in-Indexing.seq c.in-Indexing.tid c.facts.ensures c.in_ok-insert-in-Indexing.ensures.rel c.in_ok-insert-in-Indexing.ensures.entries here.0 here.1))

@@ -16,8 +16,8 @@ some_of f (Some x) = refl
 pub returns-then-is_some : goal.returns-then-is_some
 returns-then-is_some c =
     rw (← c.self.view_is)
-      (sym (any_found (λ (e : Entry). is_some (item_in c.self.inside.rel.pages e.tid)) (of_id c.args.id c.self.inside.index.entries) c.loop-entry.n c.in-Some.entry (sym c.in-Some.ensures.entry)
-        (ap is_some (sym c.chunk_at.ensures) ∙ some_of _ c.chunk_at.result ∙ sym c.is_some.ensures ∙ c.if-is_some.true)))
+    (sym (any_found (λ (e : Entry). is_some (item_in c.self.inside.rel.pages e.tid)) (of_id c.args.id c.self.inside.index.entries) c.loop-entry.n c.in-Some.entry (sym c.in-Some.ensures.entry)
+    (ap is_some (sym c.chunk_at.ensures) ∙ some_of _ c.chunk_at.result ∙ sym c.is_some.ensures ∙ c.if-is_some.true)))
 
 pub loop-entry-smaller : goal.loop-entry-smaller
 loop-entry-smaller c = omega (arith, slice_get_within (of_id c.args.id c.self.inside.index.entries) c.loop-entry.n c.in-Some.entry (sym c.in-Some.ensures.entry))
@@ -25,9 +25,9 @@ loop-entry-smaller c = omega (arith, slice_get_within (of_id c.args.id c.self.in
 pub loop-entry-preserved : goal.loop-entry-preserved
 loop-entry-preserved c =
     none_yet (λ (e : Entry). is_some (item_in c.self.inside.rel.pages e.tid)) (of_id c.args.id c.self.inside.index.entries) c.loop-entry.n c.in-Some.entry (sym c.in-Some.ensures.entry)
-      (ap is_some (sym c.chunk_at.ensures) ∙ some_of _ c.chunk_at.result ∙ sym c.is_some.ensures ∙ c.if-is_some.false) c.loop-entry.invariant
+    (ap is_some (sym c.chunk_at.ensures) ∙ some_of _ c.chunk_at.result ∙ sym c.is_some.ensures ∙ c.if-is_some.false) c.loop-entry.invariant
 
 pub returns : goal.returns
 returns c =
     rw (← c.self.view_is)
-      (sym (none_at_all (λ (e : Entry). is_some (item_in c.self.inside.rel.pages e.tid)) (of_id c.args.id c.self.inside.index.entries) c.loop-entry.n (sym c.in_default.ensures.entry) c.loop-entry.invariant))
+    (sym (none_at_all (λ (e : Entry). is_some (item_in c.self.inside.rel.pages e.tid)) (of_id c.args.id c.self.inside.index.entries) c.loop-entry.n (sym c.in_default.ensures.entry) c.loop-entry.invariant))

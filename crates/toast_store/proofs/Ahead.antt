@@ -1,23 +1,19 @@
 -- What others do to a store, seen from a walk through a value's entries: the chunks that it still comes to.
-use Rattle.std.proofs.Common.{ℕ, ◌≡◌, ◌≢◌, ◌⊎◌, inl, inr, Bool, true, false, cond, not, ◌&&◌, ◌==◌, nat_le, Option, Some, None, List, [], ◌∷◌, ◌++◌, length, map, drop, Contains, slice_get, refl, sym, ap, ◌∙◌, ◌-◌, subst, arith}
+use Rattle.std.proofs.Common.{ℕ, ◌≡◌, ◌≢◌, inl, inr, Bool, true, false, cond, not, ◌&&◌, ◌==◌, Option, List, [], ◌++◌, length, map, drop, Contains, slice_get, refl, sym, ap, ◌∙◌, ◌-◌, subst, arith}
 use Rattle.std.specs.Option.{option_map}
-use Rattle.std.specs.List.{filter_map}
 use Rattle.std.proofs.lemmas.Bool.Decides.{nat_tests}
 use Rattle.std.proofs.lemmas.List.Elements.{Contains-append_cases, filter_map-append}
 use Rattle.list_facts.proofs.Members.{none_in_nil}
 use Rattle.slot_page.specs.declared.line.Tid.{Tid}
-use Rattle.slot_page.specs.declared.line.LinePointer.{LinePointer}
-use Rattle.slot_page.specs.declared.line.LinePointer.TheVariants.{Normal, Dead, Unused}
-use Rattle.slot_page.specs.Slots.{item_of}
 use Rattle.slot_page.specs.Pages.{slot_of, item_in, with_put_on}
 use Rattle.slot_page.proofs.Pages.{put_was_free}
 use Rattle.xact_status.specs.Xacts.{Xacts}
 use Rattle.chunk_relation.specs.declared.chunk.Chunk.{Chunk}
 use Rattle.chunk_relation.proofs.Events.{chunk_of-put, chunk_of-pruned, chunk_of-reaped}
 use Rattle.chunk_index.specs.declared.entry.Entry.{Entry}
-use Rattle.chunk_index.specs.Entries.{is_after, is_wanted, with_entry}
+use Rattle.chunk_index.specs.Entries.{is_wanted}
 use Rattle.chunk_index.specs.Leaves.{Leaf}
-use Rattle.chunk_index.specs.Indexes.{is_swept, unswept}
+use Rattle.chunk_index.specs.Indexes.{is_swept}
 use Rattle.chunk_index.proofs.Inserts.{others_stay}
 use Rattle.chunk_index.proofs.Batches.{wanted_are}
 use Rattle.toast_store.specs.declared.walk.WalkStage.{WalkStage}

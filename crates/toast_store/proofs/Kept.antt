@@ -1,18 +1,16 @@
 -- What others do to a store, seen from a value whose chunks they leave alone.
-use Rattle.std.proofs.Common.{ℕ, ◌≡◌, ◌≢◌, ◌⊎◌, inl, inr, Bool, true, false, not, ◌&&◌, ◌==◌, Option, Some, None, List, map, filter, Contains, refl, sym, ap, ◌∙◌, subst}
+use Rattle.std.proofs.Common.{ℕ, ◌≡◌, ◌≢◌, inl, inr, Bool, true, false, not, ◌&&◌, ◌==◌, Some, List, map, Contains, refl, sym, ap, ◌∙◌, subst}
 use Rattle.std.specs.Option.{option_map}
-use Rattle.std.specs.List.{filter_map}
 use Rattle.std.proofs.lemmas.Option.{same_Some, none-some}
 use Rattle.slot_page.specs.declared.line.Tid.{Tid}
 use Rattle.slot_page.specs.declared.line.LinePointer.{LinePointer}
 use Rattle.slot_page.specs.declared.line.LinePointer.TheVariants.{Normal, Dead, Unused}
 use Rattle.slot_page.specs.Slots.{item_of}
-use Rattle.slot_page.specs.Pages.{slot_of, item_in, put_tid, with_put_on}
+use Rattle.slot_page.specs.Pages.{slot_of, item_in, with_put_on}
 use Rattle.slot_page.proofs.Pages.{put_was_free}
 use Rattle.xact_status.specs.Xacts.{Xacts}
 use Rattle.chunk_relation.specs.declared.chunk.Chunk.{Chunk}
 use Rattle.chunk_relation.specs.Chunks.{ended, is_dead_chunk}
-use Rattle.chunk_relation.specs.Relations.{Pages}
 use Rattle.chunk_relation.proofs.Events.{chunk_of-put, chunk_of-ended, chunk_of-pruned, chunk_of-reaped}
 use Rattle.chunk_index.specs.declared.entry.Entry.{Entry}
 use Rattle.slot_page.specs.Tids.{is_listed}
@@ -22,8 +20,8 @@ use Rattle.chunk_index.specs.Indexes.{is_swept}
 use Rattle.chunk_index.proofs.Inserts.{entry_was, of_id-other, of_id_has, has_of_id}
 use Rattle.chunk_index.proofs.Sweeps.{left_was}
 use Rattle.external_pointer.specs.declared.external.Pointer.{Pointer}
-use Rattle.toast_store.specs.Stores.{Store, Names, IsStore, NamesChunk, IsUnnamed, chunks_of, named_by}
-use Rattle.toast_store.specs.Values.{Piece, Whole, piece_in}
+use Rattle.toast_store.specs.Stores.{Store, Names, IsStore, IsUnnamed, named_by}
+use Rattle.toast_store.specs.Values.{Whole, piece_in}
 use Rattle.toast_store.specs.Between.{LeavesValue, LeavesUnnamed, LeavesSave, Puts, Adds, Ends, Prunes, Sweeps, Reaps, Pins, IsSpared}
 use Rattle.value_ids.specs.Ids.{Pool}
 use Rattle.toast_store.specs.declared.save.SaveStage.{SaveStage}

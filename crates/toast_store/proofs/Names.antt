@@ -1,12 +1,12 @@
 -- What each call of the parts leaves true of a store.
-use Rattle.std.proofs.Common.{ℕ, ◌≡◌, ◌≢◌, ◌⊎◌, inl, inr, ◌≤◌, true, false, not, Option, Some, None, List, length, Contains, refl, sym, ap, ◌∙◌, subst}
+use Rattle.std.proofs.Common.{ℕ, ◌≡◌, inl, inr, ◌≤◌, Option, Some, None, List, length, Contains, sym, ap, ◌∙◌, subst}
 use Rattle.std.proofs.lemmas.Option.{same_Some, none-some}
 use Rattle.std.specs.Option.{option_map_or}
 use Rattle.slot_page.specs.declared.line.Tid.{Tid}
 use Rattle.slot_page.specs.declared.line.LinePointer.{LinePointer}
 use Rattle.slot_page.specs.declared.line.LinePointer.TheVariants.{Normal, Dead, Unused}
 use Rattle.slot_page.specs.Slots.{item_of}
-use Rattle.slot_page.specs.Pages.{slot_of, item_in, put_tid, with_put_on, written}
+use Rattle.slot_page.specs.Pages.{slot_of, with_put_on, written}
 use Rattle.slot_page.proofs.Pages.{slot_of-put, slot_of-written, put_was_free}
 use Rattle.chunk_relation.specs.declared.chunk.Chunk.{Chunk}
 use Rattle.chunk_relation.specs.Chunks.{most_bytes}
@@ -15,7 +15,7 @@ use Rattle.chunk_index.specs.declared.entry.Entry.{Entry}
 use Rattle.chunk_index.specs.Entries.{with_entry}
 use Rattle.chunk_index.specs.Leaves.{Leaf}
 use Rattle.chunk_index.specs.Pinned.{holder_of}
-use Rattle.chunk_index.specs.Indexes.{Index, IsIndex, unswept, swept_index, after_sweep}
+use Rattle.chunk_index.specs.Indexes.{Index, IsIndex, swept_index, after_sweep}
 use Rattle.chunk_index.proofs.Inserts.{entry_was}
 use Rattle.chunk_index.proofs.Sweeps.{left_was}
 use Rattle.toast_store.specs.Stores.{Store, Names, IndexNamesChunks, IsPieceSized, IsStore, NamesChunk, IsUnnamed}

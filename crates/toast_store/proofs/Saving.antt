@@ -1,5 +1,5 @@
 -- The steps of a save: what it relies on holds after each, and at its end the value is whole.
-use Rattle.std.proofs.Common.{ℕ, ◌≡◌, ◌≢◌, ◌⊎◌, inl, inr, ◌<◌, ◌≤◌, ◌+◌, ◌-◌, ◌*◌, ◌/◌, zero, suc, Bool, true, false, cond, ◌||◌, ◌==◌, nat_lt, Option, Some, None, is_some, List, [], ◌∷◌, ◌++◌, length, map, filter, Contains, refl, sym, ap, ◌∙◌, subst, arith}
+use Rattle.std.proofs.Common.{ℕ, ◌≡◌, ◌<◌, ◌+◌, Bool, true, false, cond, ◌||◌, ◌==◌, nat_lt, Option, Some, None, is_some, List, [], ◌∷◌, ◌++◌, length, map, filter, Contains, refl, sym, ap, ◌∙◌, subst, arith}
 use Rattle.std.specs.List.{filter_map, cons_option, list_any, range_with_len}
 use Rattle.std.specs.List.Sorted.{IsStrictlySortedBy}
 use Rattle.std.specs.Ordering.{is_lt}
@@ -15,7 +15,7 @@ use Rattle.slot_page.specs.declared.line.Tid.{Tid}
 use Rattle.slot_page.specs.declared.line.LinePointer.{LinePointer}
 use Rattle.slot_page.specs.declared.line.LinePointer.TheVariants.{Normal, Dead, Unused}
 use Rattle.slot_page.specs.Slots.{item_of}
-use Rattle.slot_page.specs.Pages.{slot_of, item_in, put_tid, with_put_on}
+use Rattle.slot_page.specs.Pages.{slot_of, item_in, put_tid}
 use Rattle.slot_page.proofs.Pages.{item_put, put_was_free}
 use Rattle.slice_fetch.specs.Spans.{piece}
 use Rattle.external_pointer.specs.declared.external.Pointer.{Pointer}
@@ -24,21 +24,21 @@ use Rattle.chunk_relation.specs.Chunks.{new_chunk}
 use Rattle.chunk_relation.specs.Relations.{Pages, Relation}
 use Rattle.chunk_index.specs.declared.entry.Entry.{Entry}
 use Rattle.chunk_index.specs.Entries.{entry_cmp, of_id, with_entry}
-use Rattle.chunk_index.proofs.Inserts.{one_more, comes_last, of_id-same, of_id_has, has_of_id}
+use Rattle.chunk_index.proofs.Inserts.{one_more, comes_last, of_id-same, of_id_has}
 use Rattle.value_ids.specs.declared.pool.InHand.{InHand}
 use Rattle.value_ids.specs.Ids.{Pool, first_free_id, id_after, is_held}
 use Rattle.value_ids.specs.Faults.{IsCause}
 use Rattle.value_ids.specs.declared.fault.DrawFault.{DrawFault}
 use Rattle.value_ids.specs.declared.fault.DrawFault.TheVariants.{NoValueId, Memory}
 use Rattle.value_ids.proofs.Drawn.{drawn_free}
-use Rattle.toast_store.specs.Stores.{Store, Names, IsStore, IsUnnamed, NamesChunk, chunks_of, named_by, is_used}
-use Rattle.toast_store.specs.Values.{Whole, Piece, piece_count, piece_in, pieces_of}
+use Rattle.toast_store.specs.Stores.{Store, Names, IsStore, IsUnnamed, chunks_of, named_by, is_used}
+use Rattle.toast_store.specs.Values.{Whole, piece_count, piece_in}
 use Rattle.toast_store.specs.Between.{Puts}
 use Rattle.toast_store.specs.Saves.{Saving, HasIndexed, HasPut, StandsAt, SaveStands, IsSaveCause, IsWholeSaved, answer_at, ids_after, stage_after, stage_passed, tuple_size}
 use Rattle.toast_store.specs.declared.save.SaveStage.{SaveStage}
-use Rattle.toast_store.specs.declared.save.SaveStage.TheVariants.{Drawing, Putting, Indexing, Saved}
+use Rattle.toast_store.specs.declared.save.SaveStage.TheVariants.{Drawing, Putting, Saved}
 use Rattle.toast_store.proofs.Chosen.{chosen_filter, chosen_in}
-use Rattle.toast_store.proofs.Kept.{put_leaves, id_named}
+use Rattle.toast_store.proofs.Kept.{put_leaves}
 use Rattle.toast_store.proofs.Pieces.{map-map, made_below}
 
 clash : true ≡ false → ⊥

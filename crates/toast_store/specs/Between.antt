@@ -1,5 +1,5 @@
 -- What others may do to a store between two steps of a job, each as the store before and after it.
-use Rattle.std.specs.Prelude.{ℕ, ◌≡◌, ◌≢◌, true, false, Some, None, List, [], Contains, drop, ⊤}
+use Rattle.std.specs.Prelude.{ℕ, ◌≡◌, true, false, None, List, [], Contains, drop, ⊤}
 use Rattle.slot_page.specs.declared.line.Tid.{Tid}
 use Rattle.slot_page.specs.declared.line.LinePointer.TheVariants.{Unused}
 use Rattle.slot_page.specs.Slots.{IsDead}

@@ -1,4 +1,3 @@
-use Rattle.std.proofs.Common.{◌≡◌, ◌*◌, ◌-◌, ℕ, length, take, drop, min, refl, sym, ap, ◌∙◌, arith}
 use Rattle.toast_store.proofs.Pieces.{piece_cut}
 use Rattle.toast_store.proofs.save.piece_of.Goals as goal
 

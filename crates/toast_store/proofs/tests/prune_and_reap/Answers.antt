@@ -1,4 +1,4 @@
-use Rattle.std.proofs.Common.{◌≡◌, ◌++◌, [], Contains, sym, ap, ◌∙◌, subst}
+use Rattle.std.proofs.Common.{◌++◌, Contains, sym, ap, ◌∙◌, subst}
 use Rattle.list_facts.proofs.Members.{none_in_nil}
 use Rattle.slot_page.specs.Pages.{page_at}
 use Rattle.slot_page.specs.DeadSlots.{dead_tids}

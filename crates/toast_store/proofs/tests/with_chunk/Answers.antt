@@ -1,7 +1,7 @@
-use Rattle.std.proofs.Common.{◌≡◌, [], ◌∷◌, sym, ap, ◌∙◌, subst, arith}
+use Rattle.std.proofs.Common.{sym, ap, ◌∙◌, subst, arith}
 use Rattle.xact_status.specs.Xacts.{IsAssigned}
 use Rattle.slot_page.proofs.Pages.{item_put}
-use Rattle.chunk_relation.specs.Relations.{AreAssigned, Pages}
+use Rattle.chunk_relation.specs.Relations.{AreAssigned}
 use Rattle.chunk_relation.proofs.Events.{assigned_none, assigned_put, new_assigned}
 use Rattle.toast_store.specs.Stores.{Store}
 use Rattle.toast_store.proofs.tests.with_chunk.Goals as goal

@@ -1,4 +1,4 @@
-use Rattle.std.proofs.Common.{ℕ, ◌≡◌, ◌<◌, ◌++◌, [], ◌∷◌, Result, Ok, Err, IfErr, refl, sym, ap, ◌∙◌, subst, length}
+use Rattle.std.proofs.Common.{◌≡◌, ◌<◌, Result, Ok, Err, IfErr, refl, sym, ap, ◌∙◌, subst, length}
 use Rattle.std.specs.Result.{IsErrAnd}
 use Rattle.value_ids.specs.Ids.{Pool}
 use Rattle.toast_store.specs.Stores.{Store}
@@ -6,7 +6,7 @@ use Rattle.toast_store.specs.Values.{piece_count}
 use Rattle.toast_store.specs.Saves.{Saving, HasIndexed, HasPut, IsSaveCause, IsStage, IsWholeSaved, SaveStands, answer_at, ids_after, stage_after}
 use Rattle.toast_store.specs.contracts.save.Save.{the_view}
 use Rattle.toast_store.specs.declared.save.SaveStage.{SaveStage}
-use Rattle.toast_store.specs.declared.save.SaveStage.TheVariants.{Drawing, Putting, Indexing}
+use Rattle.toast_store.specs.declared.save.SaveStage.TheVariants.{Putting, Indexing}
 use Rattle.toast_store.proofs.Saving.{not_there, stands_here, stands_drawn, stands_put, stands_indexed, indexed_at, put_at, drawn_cause, drawn_stage, drawn_ids, passed_stands, passed_whole}
 use Rattle.toast_store.proofs.save.Save.step.Goals as goal
 

@@ -1,7 +1,6 @@
-use Rattle.std.proofs.Common.{sym, subst}
+use Rattle.std.proofs.Common.{subst}
 use Rattle.chunk_index.specs.Leaves.{leaf_at}
 use Rattle.chunk_index.specs.Indexes.{IsIndex}
-use Rattle.toast_store.specs.Stores.{IsStore}
 use Rattle.toast_store.proofs.Names.{store_swept}
 use Rattle.toast_store.proofs.store.ToastStore.sweep_leaf.Goals as goal
 

@@ -1,10 +1,9 @@
-use Rattle.std.proofs.Common.{ℕ, ◌≡◌, ◌<◌, ◌-◌, ◌+◌, true, false, Option, Some, None, is_some, refl, sym, ap, ◌∙◌, arith, length}
+use Rattle.std.proofs.Common.{◌≡◌, Option, Some, None, is_some, refl, sym, ap, ◌∙◌, arith}
 use Rattle.std.specs.Option.{option_map}
 use Rattle.std.proofs.lemmas.Option.{slice_get_within}
 use Rattle.slot_page.specs.Pages.{item_in}
 use Rattle.chunk_index.specs.declared.entry.Entry.{Entry}
 use Rattle.chunk_index.specs.Entries.{of_id}
-use Rattle.toast_store.specs.Stores.{Store, is_used}
 use Rattle.toast_store.proofs.Used.{any_found, none_yet, none_at_all}
 use Rattle.toast_store.proofs.store.ToastStoreIdTest.used.Goals as goal
 

@@ -11,3 +11,4 @@ pub mod Marking
 pub mod Spans
 pub mod Wholes
 pub mod Ahead
+pub mod Each

@@ -117,7 +117,7 @@ comes_after : (e f : Entry) → e.value_id ≡ f.value_id → f.seq < e.seq → 
 comes_after e f same above = grind (arith, nat_tests)
 
 -- the chunk in the slot of an entry has the entry's number
-seq_of : (e : Entry) (line : LinePointer Chunk) (chunk : Chunk) → Names e line → item_of line ≡ Some chunk → chunk.seq ≡ e.seq
+pub seq_of : (e : Entry) (line : LinePointer Chunk) (chunk : Chunk) → Names e line → item_of line ≡ Some chunk → chunk.seq ≡ e.seq
 seq_of e (Normal size item) chunk names is = ap (λ (c : Chunk). c.seq) (sym (same_Some item chunk is)) ∙ names.1
 seq_of e Dead chunk names is = absurd (none-some chunk is)
 seq_of e Unused chunk names is = absurd (none-some chunk is)

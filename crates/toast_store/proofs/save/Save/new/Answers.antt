@@ -1,0 +1,2 @@
+use Rattle.toast_store.proofs.Each.{whole_once}
+use Rattle.toast_store.proofs.save.Save.new.Goals as goal

@@ -34,7 +34,7 @@ use Rattle.value_ids.proofs.Drawn.{drawn_free}
 use Rattle.toast_store.specs.Stores.{Store, Names, IsStore, IsUnnamed, chunks_of, named_by, is_used}
 use Rattle.toast_store.specs.Values.{Whole, piece_count, piece_in}
 use Rattle.toast_store.specs.Between.{Puts}
-use Rattle.toast_store.specs.Saves.{Saving, HasIndexed, HasPut, StandsAt, SaveStands, IsSaveCause, IsWholeSaved, answer_at, ids_after, stage_after, stage_passed, tuple_size}
+use Rattle.toast_store.specs.Saves.{Saving, HasIndexed, HasPut, StandsAt, SaveStands, IsDrawn, IsSaveCause, IsWholeSaved, answer_at, ids_after, stage_after, stage_passed, tuple_size}
 use Rattle.toast_store.specs.declared.save.SaveStage.{SaveStage}
 use Rattle.toast_store.specs.declared.save.SaveStage.TheVariants.{Drawing, Putting, Saved}
 use Rattle.toast_store.proofs.Chosen.{chosen_filter, chosen_in}
@@ -179,6 +179,9 @@ put_at store save value_id seq tid stage has = record { chunk = has.chunk; unnam
 -- where a draw leads, and what is in hand then
 pub drawn_stage : (store : Store) (ids : Pool) (save : Saving) (value_id : ℕ) → save.stage ≡ Drawing → first_free_id (is_used store) ids save.table ≡ Some value_id → Putting value_id 0 ≡ stage_after store ids save save.stage
 drawn_stage store ids save value_id at drawn = sym (ap (stage_after store ids save) at ∙ ap (λ o. Putting (unwrap_or o 0) 0) drawn)
+
+pub drawn_is : (store : Store) (ids : Pool) (save : Saving) (value_id : ℕ) → save.stage ≡ Drawing → first_free_id (is_used store) ids save.table ≡ Some value_id → IsDrawn store ids save save.stage (Putting value_id 0)
+drawn_is store ids save value_id at drawn = subst (λ s. IsDrawn store ids save s (Putting value_id 0)) (sym at) drawn
 
 pub drawn_ids : (store : Store) (ids later : Pool) (save : Saving) (value_id : ℕ) → save.stage ≡ Drawing → first_free_id (is_used store) ids save.table ≡ Some value_id
     → later ≡ record ids { next = id_after ids value_id; in_hand = ids.in_hand ++ (record { table = save.table; session = save.session; id = value_id }) ∷ [] } → later ≡ ids_after store ids save save.stage

@@ -92,6 +92,13 @@ SaveStands store ids save = StandsAt store ids save save.stage
 abbrev pub drawn_id : Store → Pool → Saving → ℕ
 drawn_id store ids save = unwrap_or (first_free_id (is_used store) ids save.table) 0
 
+-- a draw that is granted has the id that the pool gives
+abbrev pub IsDrawn : Store → Pool → Saving → SaveStage → SaveStage → Type 0
+IsDrawn store ids save Drawing after = first_free_id (is_used store) ids save.table ≡ Some (id_of after)
+IsDrawn store ids save (Putting value_id seq) after = ⊤
+IsDrawn store ids save (Indexing value_id seq tid) after = ⊤
+IsDrawn store ids save Saved after = ⊤
+
 -- the size of the tuple of a piece's chunk
 abbrev pub tuple_size : Saving → ℕ → ℕ
 tuple_size save seq = chunk_size (length (piece save.value seq))

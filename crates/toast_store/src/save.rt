@@ -5,7 +5,7 @@ ghost use Rattle.slot_page.specs.Pages.{put_tid};
 ghost use Rattle.slice_fetch.specs.Spans.{piece};
 ghost use Rattle.chunk_relation.specs.Chunks.{most_bytes};
 ghost use Rattle.toast_store.specs.Values.{piece_count};
-ghost use Rattle.toast_store.specs.Saves.{IsIndexAfter, IsSaveCause, IsSaveProgress, IsSaveReady, IsUnderWay, IsWholeSaved, SaveStands, answer_at, id_of, ids_after, log_after, rel_after, stage_after, stage_passed, steps_left, tuple_size};
+ghost use Rattle.toast_store.specs.Saves.{IsDrawn, IsIndexAfter, IsSaveCause, IsSaveProgress, IsSaveReady, IsUnderWay, IsWholeSaved, SaveStands, answer_at, id_of, ids_after, log_after, rel_after, stage_after, stage_passed, steps_left, tuple_size};
 ghost use Rattle.toast_store.specs.declared.save.SaveStage.TheVariants.{Drawing, Putting};
 
 use crate::store::ToastStore;
@@ -100,6 +100,7 @@ impl Save {
         requires under_way { IsUnderWay self.old.stage }
         requires stands { SaveStands store.old ids.old self.old }
         ensures stage { OnOk result (self.new ≡ record self.old { stage = stage_after store.old ids.old self.old self.old.stage }) }
+        ensures drawn { OnOk result (IsDrawn store.old ids.old self.old self.old.stage self.new.stage) }
         ensures ids { OnOk result (ids.new ≡ ids_after store.old ids.old self.old self.old.stage) }
         ensures rel { OnOk result (store.new.rel ≡ rel_after store.old.rel self.old self.old.stage) }
         ensures index { OnOk result (IsIndexAfter self.old.stage store.old.index store.new.index) }

@@ -3,11 +3,11 @@ use Rattle.std.specs.Result.{IsErrAnd}
 use Rattle.value_ids.specs.Ids.{Pool}
 use Rattle.toast_store.specs.Stores.{Store}
 use Rattle.toast_store.specs.Values.{piece_count}
-use Rattle.toast_store.specs.Saves.{Saving, HasIndexed, HasPut, IsSaveCause, IsStage, IsWholeSaved, SaveStands, answer_at, ids_after, stage_after}
+use Rattle.toast_store.specs.Saves.{Saving, HasIndexed, HasPut, IsDrawn, IsSaveCause, IsStage, IsWholeSaved, SaveStands, answer_at, ids_after, stage_after}
 use Rattle.toast_store.specs.contracts.save.Save.{the_view}
 use Rattle.toast_store.specs.declared.save.SaveStage.{SaveStage}
 use Rattle.toast_store.specs.declared.save.SaveStage.TheVariants.{Putting, Indexing}
-use Rattle.toast_store.proofs.Saving.{not_there, stands_here, stands_drawn, stands_put, stands_indexed, indexed_at, put_at, drawn_cause, drawn_stage, drawn_ids, passed_stands, passed_whole}
+use Rattle.toast_store.proofs.Saving.{not_there, stands_here, stands_drawn, stands_put, stands_indexed, indexed_at, put_at, drawn_cause, drawn_stage, drawn_ids, drawn_is, passed_stands, passed_whole}
 use Rattle.toast_store.proofs.save.Save.step.Goals as goal
 
 -- a fault that was handed on has the cause that it had
@@ -35,6 +35,12 @@ returns-in_ok-value_id-in-Drawing-clause-stage c =
     let drawn : SaveStage = Putting c.in_ok-value_id-in-Drawing.value_id 0 in
     subst (λ (s : Saving). record (the_view c.self.inside) { stage = drawn } ≡ record s { stage = stage_after c.args.store.now c.args.ids.now s s.stage }) c.self.view_is
     (ap (λ stage. record (the_view c.self.inside) { stage = stage }) (drawn_stage c.args.store.now c.args.ids.now (the_view c.self.inside) c.in_ok-value_id-in-Drawing.value_id c.in-Drawing.is c.in_ok-value_id-in-Drawing.ensures.id))
+
+pub returns-in_ok-value_id-in-Drawing-clause-drawn : goal.returns-in_ok-value_id-in-Drawing-clause-drawn
+returns-in_ok-value_id-in-Drawing-clause-drawn c =
+    let drawn : SaveStage = Putting c.in_ok-value_id-in-Drawing.value_id 0 in
+    subst (λ (s : Saving). IsDrawn c.args.store.now c.args.ids.now s s.stage drawn) c.self.view_is
+      (drawn_is c.args.store.now c.args.ids.now (the_view c.self.inside) c.in_ok-value_id-in-Drawing.value_id c.in-Drawing.is c.in_ok-value_id-in-Drawing.ensures.id)
 
 pub returns-in_ok-value_id-in-Drawing-clause-ids : goal.returns-in_ok-value_id-in-Drawing-clause-ids
 returns-in_ok-value_id-in-Drawing-clause-ids c =

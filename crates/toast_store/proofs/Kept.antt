@@ -82,18 +82,21 @@ add_leaves_unnamed old new e tid there adds is other = record {
   };
 }
 
--- a chunk of another value that is ended leaves a value
-pub end_leaves : (old new : Store) (tid : Tid) (xid value_id : ℕ) → IsStore old → Ends old new tid xid → ((chunk : Chunk) → item_in old.rel.pages tid ≡ Some chunk → chunk.value_id ≢ value_id) → LeavesValue value_id old new
-end_leaves old new tid xid value_id is ends other = same_slots old new value_id ends.entries (λ e held of_value. ap (λ pages. item_in pages e.tid) ends.pages ∙ elim (chunk_of-ended xid old.rel.pages tid e.tid) [
+-- where a chunk of another value is ended, the slots of a value's entries stay
+pub end_item : (old new : Store) (tid : Tid) (xid value_id : ℕ) → IsStore old → Ends old new tid xid → ((chunk : Chunk) → item_in old.rel.pages tid ≡ Some chunk → chunk.value_id ≢ value_id) → (e : Entry) → Contains old.index.entries e → e.value_id ≡ value_id → item_in new.rel.pages e.tid ≡ item_in old.rel.pages e.tid
+end_item old new tid xid value_id is ends other e held of_value = ap (λ pages. item_in pages e.tid) ends.pages ∙ elim (chunk_of-ended xid old.rel.pages tid e.tid) [
   | inl same ↦ same
-  | inr h ↦ h.1 ∙ unended (slot_of old.rel.pages tid) refl e held of_value h.0
-])
+  | inr h ↦ h.1 ∙ unended (slot_of old.rel.pages tid) refl h.0
+]
   where
-    unended : (line : LinePointer Chunk) → slot_of old.rel.pages tid ≡ line → (e : Entry) → Contains old.index.entries e → e.value_id ≡ value_id → e.tid ≡ tid → item_of (ended xid line) ≡ item_in old.rel.pages e.tid
-    unended (Normal size chunk) at e held of_value here =
-        absurd (other chunk (ap item_of at) (id_named old e chunk is held (ap (item_in old.rel.pages) here ∙ ap item_of at) ∙ of_value))
-    unended Dead at e held of_value here = sym (ap (item_in old.rel.pages) here ∙ ap item_of at)
-    unended Unused at e held of_value here = sym (ap (item_in old.rel.pages) here ∙ ap item_of at)
+    unended : (line : LinePointer Chunk) → slot_of old.rel.pages tid ≡ line → e.tid ≡ tid → item_of (ended xid line) ≡ item_in old.rel.pages e.tid
+    unended (Normal size chunk) at here = absurd (other chunk (ap item_of at) (id_named old e chunk is held (ap (item_in old.rel.pages) here ∙ ap item_of at) ∙ of_value))
+    unended Dead at here = sym (ap (item_in old.rel.pages) here ∙ ap item_of at)
+    unended Unused at here = sym (ap (item_in old.rel.pages) here ∙ ap item_of at)
+
+-- so it leaves the value
+pub end_leaves : (old new : Store) (tid : Tid) (xid value_id : ℕ) → IsStore old → Ends old new tid xid → ((chunk : Chunk) → item_in old.rel.pages tid ≡ Some chunk → chunk.value_id ≢ value_id) → LeavesValue value_id old new
+end_leaves old new tid xid value_id is ends other = same_slots old new value_id ends.entries (λ e held of_value. end_item old new tid xid value_id is ends other e held of_value)
 
 pub end_leaves_unnamed : (old new : Store) (tid u : Tid) (xid : ℕ) → Ends old new tid xid → u ≢ tid → LeavesUnnamed u old new
 end_leaves_unnamed old new tid u xid ends other = record {

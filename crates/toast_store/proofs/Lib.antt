@@ -12,3 +12,4 @@ pub mod Spans
 pub mod Wholes
 pub mod Ahead
 pub mod Each
+pub mod Marked

@@ -126,8 +126,7 @@ whole_there store pointer value seq is whole below =
     let listed = map_in (numbered value) (range_with_len 0 (piece_count (length value))) seq (in_range 0 (piece_count (length value)) seq (omega arith) (omega (arith, below))) in
     let chunk = from_map piece_in (chunks_of store pointer.value_id) (numbered value seq) (subst (λ ps. Contains ps (numbered value seq)) (sym whole.chunks) listed) in
     let found = from_chosen (λ (f : Entry). item_in store.rel.pages f.tid) (of_id pointer.value_id store.index.entries) chunk.0 chunk.1 in
-    let has = of_id_has pointer.value_id store.index.entries found.0 found.1 in
-    (
+    let has = of_id_has pointer.value_id store.index.entries found.0 found.1 in (
       found.0,
       record {
         there = has.0;
@@ -143,8 +142,8 @@ whole_there store pointer value seq is whole below =
 pub whole_once : (store : Store) (pointer : Pointer) (value : List ℕ) (seq : ℕ) (e f : Entry) → IsStore store → Whole store pointer value → NamesPiece store pointer value seq e → NamesPiece store pointer value seq f → e ≡ f
 whole_once store pointer value seq e f is whole of_e of_f =
     same_key (λ (g : Entry). item_in store.rel.pages g.tid) (λ (c : Chunk). c.seq) (of_id pointer.value_id store.index.entries) apart e f of_e.chunk of_f.chunk
-      (has_of_id pointer.value_id store.index.entries e of_e.there of_e.of_value) (has_of_id pointer.value_id store.index.entries f of_f.there of_f.of_value) of_e.names of_f.names
-      (seq_is store e of_e.chunk is of_e.there of_e.names ∙ of_e.number ∙ sym (seq_is store f of_f.chunk is of_f.there of_f.names ∙ of_f.number))
+    (has_of_id pointer.value_id store.index.entries e of_e.there of_e.of_value) (has_of_id pointer.value_id store.index.entries f of_f.there of_f.of_value) of_e.names of_f.names
+    (seq_is store e of_e.chunk is of_e.there of_e.names ∙ of_e.number ∙ sym (seq_is store f of_f.chunk is of_f.there of_f.names ∙ of_f.number))
   where
     keys : map (λ (c : Chunk). c.seq) (chunks_of store pointer.value_id) ≡ range_with_len 0 (piece_count (length value))
     keys =

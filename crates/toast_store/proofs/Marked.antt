@@ -72,12 +72,12 @@ put_leaves_marking old new size chunk mark is puts marking = same_marking old ne
 pub add_leaves_marking : (old new : Store) (e : Entry) (mark : Marking) → Adds old new e → e.value_id ≢ mark.walk.value_id → IsMarking old mark → IsMarking new mark
 add_leaves_marking old new e mark adds other marking =
     marking_kept old new mark
-      (λ f held of_walk. elim (entry_was old.index.entries e f (subst (λ es. Contains es f) adds.entries held)) [
-        | inl was ↦ was
-        | inr new_one ↦ absurd (other (ap (λ (g : Entry). g.value_id) new_one ∙ of_walk.of_value))
-      ])
-      (λ f held of_walk done. subst (λ pages. IsEnded mark.xid (item_in pages f.tid)) (sym adds.pages) done)
-      marking
+    (λ f held of_walk. elim (entry_was old.index.entries e f (subst (λ es. Contains es f) adds.entries held)) [
+      | inl was ↦ was
+      | inr new_one ↦ absurd (other (ap (λ (g : Entry). g.value_id) new_one ∙ of_walk.of_value))
+    ])
+    (λ f held of_walk done. subst (λ pages. IsEnded mark.xid (item_in pages f.tid)) (sym adds.pages) done)
+    marking
 
 -- a chunk of another value that is ended
 pub end_leaves_marking : (old new : Store) (tid : Tid) (xid : ℕ) (mark : Marking) → IsStore old → Ends old new tid xid → ((chunk : Chunk) → item_in old.rel.pages tid ≡ Some chunk → chunk.value_id ≢ mark.walk.value_id) → IsMarking old mark → IsMarking new mark
@@ -87,17 +87,17 @@ end_leaves_marking old new tid xid mark is ends other marking = same_marking old
 pub prune_leaves_marking : (old new : Store) (xacts : Xacts) (horizon page : ℕ) (mark : Marking) → Prunes old new xacts horizon page → IsMarking old mark → IsMarking new mark
 prune_leaves_marking old new xacts horizon page mark prunes marking =
     marking_kept old new mark (λ e held of_walk. subst (λ es. Contains es e) prunes.entries held)
-      (λ e held of_walk done. subst (λ pages. IsEnded mark.xid (item_in pages e.tid)) (sym prunes.pages) (elim (chunk_of-pruned xacts horizon old.rel.pages page e.tid) [
-        | inl same ↦ subst (IsEnded mark.xid) (sym same) done
-        | inr h ↦ subst (IsEnded mark.xid) (sym h.3) tt
-      ]))
-      marking
+    (λ e held of_walk done. subst (λ pages. IsEnded mark.xid (item_in pages e.tid)) (sym prunes.pages) (elim (chunk_of-pruned xacts horizon old.rel.pages page e.tid) [
+      | inl same ↦ subst (IsEnded mark.xid) (sym same) done
+      | inr h ↦ subst (IsEnded mark.xid) (sym h.3) tt
+    ]))
+    marking
 
 pub sweep_leaves_marking : (old new : Store) (leaf : Leaf) (dead : List Tid) (mark : Marking) → Sweeps old new leaf dead → IsMarking old mark → IsMarking new mark
 sweep_leaves_marking old new leaf dead mark sweeps marking =
     marking_kept old new mark (λ e held of_walk. (left_was old.index.bounds leaf dead old.index.entries e (subst (λ es. Contains es e) sweeps.entries held)).0)
-      (λ e held of_walk done. subst (λ pages. IsEnded mark.xid (item_in pages e.tid)) (sym sweeps.pages) done)
-      marking
+    (λ e held of_walk done. subst (λ pages. IsEnded mark.xid (item_in pages e.tid)) (sym sweeps.pages) done)
+    marking
 
 pub reap_leaves_marking : (old new : Store) (tid : Tid) (mark : Marking) → Reaps old new tid → IsMarking old mark → IsMarking new mark
 reap_leaves_marking old new tid mark reaps marking = same_marking old new mark reaps.entries (λ e held of_walk. ap (λ pages. item_in pages e.tid) reaps.pages ∙ chunk_of-reaped old.rel.pages tid e.tid reaps.dead) marking

@@ -1,5 +1,5 @@
 -- What a step of a walk leaves to be taken, and that the steps left fall.
-use Rattle.std.proofs.Common.{◌≡◌, ℕ, ◌<◌, ◌≤◌, ◌+◌, ◌-◌, ◌*◌, Bool, true, false, not, ◌==◌, cond, filter, nat_lt, max, Option, Some, List, [], ◌∷◌, ◌++◌, length, get_or, drop, refl, sym, ap, ◌∙◌, subst, arith}
+use Rattle.std.proofs.Common.{◌≡◌, ℕ, ◌<◌, ◌≤◌, ◌+◌, ◌-◌, ◌*◌, Bool, true, false, not, ◌==◌, cond, filter, nat_lt, max, Option, Some, None, List, [], ◌∷◌, ◌++◌, length, get_or, drop, refl, sym, ap, ◌∙◌, subst, arith}
 use Rattle.std.specs.Prelude.{slice_get}
 use Rattle.std.proofs.lemmas.Bool.{ltb-true, ltb-false, false≢true}
 use Rattle.std.proofs.lemmas.List.{drop_more, drop_all, length-append, nil_from_length}
@@ -7,13 +7,13 @@ use Rattle.std.proofs.lemmas.Option.{slice_get_within, get_or_from_slice_get, sl
 use Rattle.chunk_index.specs.declared.entry.Entry.{Entry}
 use Rattle.chunk_index.specs.declared.entry.Batch.{Batch}
 use Rattle.chunk_index.specs.declared.entry.Pin.{Pin}
-use Rattle.chunk_index.specs.Pinned.{without_pin}
+use Rattle.chunk_index.specs.Pinned.{pin_of, without_pin}
 use Rattle.chunk_index.specs.Indexes.{Index, IsIndex, batch_of, after_batch}
 use Rattle.chunk_index.proofs.Batches.{none_left_out, entries-batch}
 use Rattle.chunk_index.proofs.PinFacts.{pin_dropped}
 use Rattle.toast_store.specs.declared.walk.WalkStage.{WalkStage}
 use Rattle.toast_store.specs.declared.walk.WalkStage.TheVariants.{Empty, Asking, Reading, Over}
-use Rattle.toast_store.specs.Walks.{Walking, IsStage, IsUnderWay, IsAsking, MayAsk, CanStep, is_over, wanted_by, ahead_at, ahead, entry_at, stage_of_batch, stage_after, walk_after, index_after, index_walked, asks_left, steps_at, steps_left}
+use Rattle.toast_store.specs.Walks.{Walking, new_walk, IsStage, IsUnderWay, IsAsking, MayAsk, CanStep, is_over, wanted_by, ahead_at, ahead, entry_at, stage_of_batch, stage_after, walk_after, index_after, index_walked, asks_left, steps_at, steps_left}
 use Rattle.toast_store.proofs.OwnLeaf.{empty_batch}
 
 -- what a walk wants does not depend on how far it is
@@ -264,3 +264,21 @@ ended_unpinned index walk is over = by_stage walk.stage over
     by_stage (Asking after) o = by_batch (wanted_by walk after index.entries) (batch_of index.bounds (wanted_by walk after index.entries)) (empty_batch index.bounds (wanted_by walk after index.entries) is.bounds_sorted) o
     by_stage (Reading batch at) o = by_test batch at (nat_lt (at + 1) (length batch.entries)) o
     by_stage Over o = refl
+
+-- a walk that has not begun may make its first step, where its session has no pin
+pub begun : (index : Index) (walk : Walking) (value_id first end session : ℕ) → walk ≡ new_walk value_id first end session → pin_of index.pins session ≡ None → CanStep index walk
+begun index walk value_id first end session is free = subst (CanStep index) (sym is) (by_test (nat_lt first end))
+  where
+    by_test : (b : Bool) → IsUnderWay (cond b (Asking None) Empty) × MayAsk index session (cond b (Asking None) Empty)
+    by_test true = (tt, free)
+    by_test false = (tt, tt)
+
+-- whether a walk may go on is told by the pins
+pub can_still : (old new : Index) (walk : Walking) → new.pins ≡ old.pins → CanStep old walk → CanStep new walk
+can_still old new walk same can = (can.0, by_stage walk.stage can.1)
+  where
+    by_stage : (s : WalkStage) → MayAsk old walk.session s → MayAsk new walk.session s
+    by_stage Empty may = tt
+    by_stage (Asking after) may = ap (λ pins. pin_of pins walk.session) same ∙ may
+    by_stage (Reading batch at) may = tt
+    by_stage Over may = tt

@@ -153,12 +153,13 @@ impl Fetch {
         ensures cause { IfErr result (λ fault. (chunks : List Chunk) → IsFetchCause (comparison self.old (cons_option (item_in store.now.rel.pages tid) chunks)) fault) }
         ensures unchanged { OnErr result (self.new ≡ self.old) }
     {
-        if let Some(chunk) = chunk_at(store, tid) {
-            check(self.size, self.next, &chunk)?;
-            self.got
-                .extend_from_slice(part_of(self.span, self.next, chunk.bytes))?;
-            self.next += 1;
-        }
+        let Some(chunk) = chunk_at(store, tid) else {
+            return Ok(());
+        };
+        check(self.size, self.next, &chunk)?;
+        self.got
+            .extend_from_slice(part_of(self.span, self.next, chunk.bytes))?;
+        self.next += 1;
         Ok(())
     }
 

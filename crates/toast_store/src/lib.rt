@@ -6,6 +6,8 @@
 
 mod fault;
 mod fetch;
+#[cfg(test)]
+mod fetch_tests;
 mod mark;
 mod save;
 mod store;

@@ -40,7 +40,7 @@ pub returns-in_ok-value_id-in-Drawing-clause-drawn : goal.returns-in_ok-value_id
 returns-in_ok-value_id-in-Drawing-clause-drawn c =
     let drawn : SaveStage = Putting c.in_ok-value_id-in-Drawing.value_id 0 in
     subst (λ (s : Saving). IsDrawn c.args.store.now c.args.ids.now s s.stage drawn) c.self.view_is
-      (drawn_is c.args.store.now c.args.ids.now (the_view c.self.inside) c.in_ok-value_id-in-Drawing.value_id c.in-Drawing.is c.in_ok-value_id-in-Drawing.ensures.id)
+    (drawn_is c.args.store.now c.args.ids.now (the_view c.self.inside) c.in_ok-value_id-in-Drawing.value_id c.in-Drawing.is c.in_ok-value_id-in-Drawing.ensures.id)
 
 pub returns-in_ok-value_id-in-Drawing-clause-ids : goal.returns-in_ok-value_id-in-Drawing-clause-ids
 returns-in_ok-value_id-in-Drawing-clause-ids c =

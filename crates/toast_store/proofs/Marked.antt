@@ -1,8 +1,6 @@
 -- What others do to a store, seen from a mark under way: what it has ended stays ended, and what lies ahead stays ahead.
-use Rattle.std.proofs.Common.{ℕ, ◌≡◌, ◌≢◌, inl, inr, Bool, true, false, cond, not, Option, Some, None, List, [], length, drop, slice_get, Contains, refl, sym, ap, ◌∙◌, ◌-◌, subst}
-use Rattle.std.proofs.lemmas.Option.{none-some}
+use Rattle.std.proofs.Common.{ℕ, ◌≡◌, ◌≢◌, inl, inr, Bool, true, false, cond, Option, Some, List, [], length, drop, slice_get, Contains, sym, ap, ◌∙◌, ◌-◌, subst}
 use Rattle.std.proofs.lemmas.List.Elements.{Contains-append_cases, Contains-append_left, Contains-append_right}
-use Rattle.list_facts.proofs.Members.{none_in_nil}
 use Rattle.slot_page.specs.declared.line.Tid.{Tid}
 use Rattle.slot_page.specs.Pages.{slot_of, item_in, with_put_on}
 use Rattle.slot_page.proofs.Pages.{put_was_free}
@@ -11,8 +9,8 @@ use Rattle.chunk_relation.specs.declared.chunk.Chunk.{Chunk}
 use Rattle.chunk_relation.proofs.Events.{chunk_of-put, chunk_of-pruned, chunk_of-reaped}
 use Rattle.chunk_index.specs.declared.entry.Entry.{Entry}
 use Rattle.chunk_index.specs.Leaves.{Leaf}
-use Rattle.chunk_index.proofs.Inserts.{entry_was, entry_stays}
-use Rattle.chunk_index.proofs.Batches.{IsWanted, wanted_are, are_wanted}
+use Rattle.chunk_index.proofs.Inserts.{entry_was}
+use Rattle.chunk_index.proofs.Batches.{wanted_are, are_wanted}
 use Rattle.chunk_index.proofs.Sweeps.{left_was}
 use Rattle.toast_store.specs.declared.walk.WalkStage.{WalkStage}
 use Rattle.toast_store.specs.declared.walk.WalkStage.TheVariants.{Empty, Asking, Reading, Over}

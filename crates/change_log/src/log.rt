@@ -53,6 +53,14 @@ impl Log {
         Ok(())
     }
 
+    /// Gives up the room that is kept for one end.
+    pub fn give_up_end(&mut self)
+        requires { 1 ≤ self.old.ends }
+        ensures { self.new ≡ record self.old { ends = self.old.ends - 1 } }
+    {
+        self.ends -= 1;
+    }
+
     /// Makes room for one entry besides the ends, so that the next `append` takes no memory if no
     /// other call changes the log before it.
     pub fn reserve(&mut self) -> Result<(), AllocError>

@@ -33,3 +33,13 @@ fn kept_room_outlasts_other_entries(rt: HostRuntime) -> Result<(), AllocError> {
     assert!(rt; is_abort_of(log.at(1), 4));
     Ok(())
 }
+
+#[test]
+fn room_that_is_given_up_serves_another_entry(rt: HostRuntime) -> Result<(), AllocError> {
+    let mut log = Log::new(rt.alloc());
+    log.reserve_end()?;
+    log.give_up_end();
+    log.append(LogEntry::Abort { xid: 5 })?;
+    assert!(rt; log.len() == 1 && is_abort_of(log.at(0), 5));
+    Ok(())
+}

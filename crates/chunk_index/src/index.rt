@@ -1,6 +1,6 @@
 //! The index.
 
-ghost use Rattle.std.specs.Prelude.{◌≡◌, ◌==◌, [], Contains, None, Some, if◌then◌else◌, length, nat_lt, slice_get, IfOk, OnErr, OnOk};
+ghost use Rattle.std.specs.Prelude.{◌≡◌, ◌==◌, ◌<◌, [], Contains, None, Some, if◌then◌else◌, length, nat_lt, slice_get, IfOk, IfSome, OnErr, OnOk};
 ghost use Rattle.std.specs.List.Sorted.{IsSorted};
 ghost use Rattle.slot_page.specs.Tids.{tid_cmp};
 ghost use Rattle.chunk_index.specs.Entries.{of_id, wanted_of, with_entry};
@@ -136,6 +136,7 @@ impl ChunkIndex {
     /// entries.
     pub fn nth_of(&self, value_id: u32, n: usize) -> Option<Entry>
         ensures entry { result ≡ slice_get (of_id value_id self.now.entries) n }
+        ensures within { IfSome result (λ _. n < usize.MAX) }
         ensures sound { IsIndex self.now }
     {
         let rest = &self.entries[start_of(&self.entries, value_id)..];

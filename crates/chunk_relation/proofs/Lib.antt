@@ -1,4 +1,1 @@
-mod Steps
-mod Fits
-mod Kept
 pub mod Events

@@ -1,8 +1,7 @@
 -- A relation of chunks.
-use Rattle.std.specs.Prelude.{ℕ, ◌+◌, ◌/◌, ◌<◌, ◌≤◌, ◌≡◌, false, List, length, map, slice_index, slice_set, Option}
+use Rattle.std.specs.Prelude.{ℕ, List, map, slice_set, Option}
 use Rattle.slot_page.specs.declared.line.Tid.{Tid}
 use Rattle.slot_page.specs.declared.line.LinePointer.{LinePointer}
-use Rattle.slot_page.specs.Slots.{fits}
 use Rattle.slot_page.specs.Pages.{page_at, slot_of, item_in, written}
 use Rattle.xact_status.specs.Xacts.{Xacts}
 use Rattle.chunk_relation.specs.declared.chunk.Chunk.{Chunk}
@@ -32,12 +31,3 @@ with_pruned xacts horizon pages page = slice_set pages page (map (pruned xacts h
 -- the transactions that the chunks of a relation name were given their xids
 pub record AreAssigned (xacts : Xacts) (pages : Pages) : Type 0 where
   pub each : (tid : Tid) → IsLineAssigned xacts (slot_of pages tid)
-
--- the class of an item's size: sizes that are the same when rounded up to 8 are in one
-abbrev pub class_of : ℕ → ℕ
-class_of size = (size + 7) / 8
-
--- what is kept beside the pages: for each class of sizes a page below which no item of the class fits on any page
-pub record IsKept (pages : Pages) (lowest : List ℕ) : Type 0 where
-  pub within : (class : ℕ) → slice_index lowest class ≤ length pages
-  pub full_below : (size page : ℕ) → page < slice_index lowest (class_of size) → fits size (page_at pages page) ≡ false

@@ -1,102 +1,15 @@
-//! What is done on the pages of a relation.
+//! What is done on a page of a relation.
 
-ghost use Rattle.std.specs.Prelude.{◌≡◌, ℕ, ◌≤◌, ◌<◌, ◌++◌, [], false, length, map, take, min, All, count_by, IfOk, IfErr, OnOk, OnErr, slice_set};
-ghost use Rattle.slot_page.specs.Slots.{fits, slot_at, with_put};
-ghost use Rattle.slot_page.specs.Pages.{page_at, put_tid, with_put_on};
+ghost use Rattle.std.specs.Prelude.{◌≡◌, ◌<◌, ◌++◌, length, map, take, All, count_by, OnOk, OnErr, slice_set};
+ghost use Rattle.slot_page.specs.Slots.{slot_at};
 ghost use Rattle.chunk_relation.specs.Chunks.{IsLineAssigned, is_newly_dead, pruned};
 ghost use Rattle.slot_page.specs.DeadSlots.{dead_tids, is_dead_line};
 
 use crate::TidList;
 use crate::chunk::Chunk;
-use slot_page::{NoRoom, Page, Slot, Tid};
-use std::alloc::{AllocError, Global};
+use slot_page::{Page, Slot, Tid};
+use std::alloc::AllocError;
 use xact_status::XactTable;
-
-/// Puts a chunk on the lowest page where it fits, of those from `from` on; it fits on none below.
-fn put_from(
-    pages: &mut [Page<Chunk>],
-    from: usize,
-    size: u16,
-    chunk: Chunk,
-) -> Result<Tid, NoRoom<Chunk>>
-    requires least { 24 ≤ size }
-    requires most { size ≤ 8160 }
-    requires from { from ≤ length pages.old }
-    requires full_below { (page : ℕ) → page < from → fits size (page_at pages.old page) ≡ false }
-    ensures page { IfOk result (λ tid. tid.page < length pages.old) }
-    ensures tid { IfOk result (λ tid. tid ≡ put_tid size pages.old) }
-    ensures put { OnOk result (pages.new ≡ with_put_on size chunk pages.old) }
-    ensures full { OnErr result ((page : ℕ) → page < length pages.old → fits size (page_at pages.old page) ≡ false) }
-    ensures handed_back { IfErr result (λ none. none.item ≡ chunk) }
-    ensures unchanged { OnErr result (pages.new ≡ pages.old) }
-{
-    let mut chunk = chunk;
-    for page in from..pages.len() {
-        match pages[page].put(size, chunk) {
-            Ok(slot) => {
-                return Ok(Tid {
-                    page: page as u64,
-                    slot,
-                });
-            }
-            Err(NoRoom { item }) => chunk = item,
-        }
-    }
-    Err(NoRoom { item: chunk })
-}
-
-/// A page with one chunk.
-fn page_with(alloc: Global, size: u16, chunk: Chunk) -> Result<Page<Chunk>, AllocError>
-    requires least { 24 ≤ size }
-    requires most { size ≤ 8160 }
-    ensures { IfOk result (λ page. page ≡ with_put size chunk []) }
-{
-    let mut page = Page::new(alloc)?;
-    match page.put(size, chunk) {
-        Ok(_) => Ok(page),
-        Err(_) => unreachable!(),
-    }
-}
-
-/// Puts a chunk on a new page; it fits on none that is there.
-fn put_after(pages: &mut Vec<Page<Chunk>>, size: u16, chunk: Chunk) -> Result<Tid, AllocError>
-    requires least { 24 ≤ size }
-    requires most { size ≤ 8160 }
-    requires full { (page : ℕ) → page < length pages.old.items → fits size (page_at pages.old.items page) ≡ false }
-    ensures tid { IfOk result (λ tid. tid ≡ put_tid size pages.old.items) }
-    ensures put { OnOk result (pages.new.items ≡ with_put_on size chunk pages.old.items) }
-    ensures unchanged { OnErr result (pages.new.items ≡ pages.old.items) }
-{
-    let alloc = *pages.allocator();
-    let tid = Tid {
-        page: pages.len() as u64,
-        slot: 0,
-    };
-    let page = page_with(alloc, size, chunk)?;
-    pages.push(page)?;
-    Ok(tid)
-}
-
-/// Puts a chunk on the lowest page where it fits, else on a new one; it fits on none below `from`.
-pub(crate) fn put_on(
-    pages: &mut Vec<Page<Chunk>>,
-    from: usize,
-    size: u16,
-    chunk: Chunk,
-) -> Result<Tid, AllocError>
-    requires least { 24 ≤ size }
-    requires most { size ≤ 8160 }
-    requires from { from ≤ length pages.old.items }
-    requires full_below { (page : ℕ) → page < from → fits size (page_at pages.old.items page) ≡ false }
-    ensures tid { IfOk result (λ tid. tid ≡ put_tid size pages.old.items) }
-    ensures put { OnOk result (pages.new.items ≡ with_put_on size chunk pages.old.items) }
-    ensures unchanged { OnErr result (pages.new.items ≡ pages.old.items) }
-{
-    match put_from(pages, from, size, chunk) {
-        Ok(tid) => Ok(tid),
-        Err(NoRoom { item }) => put_after(pages, size, item),
-    }
-}
 
 /// Whether a slot has a chunk that no reader can see.
 fn has_dead_chunk(page: &Page<Chunk>, slot: u16, xacts: &XactTable, horizon: u64) -> bool
@@ -185,13 +98,4 @@ pub(crate) fn prune(page: &mut Page<Chunk>, xacts: &XactTable, horizon: u64) -> 
         count += u32::from(prune_slot(page, slot, xacts, horizon));
     }
     count
-}
-
-/// Notes that a page may have room again: no search for room begins above it.
-pub(crate) fn note_room(lowest: &mut [u64], page: u64)
-    ensures { lowest.new ≡ map (λ first. min first page) lowest.old }
-{
-    for first in lowest.iter_mut() {
-        *first = (*first).min(page);
-    }
 }

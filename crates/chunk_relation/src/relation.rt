@@ -1,6 +1,6 @@
 //! The relation.
 
-ghost use Rattle.std.specs.Prelude.{◌≡◌, ℕ, ◌+◌, ◌/◌, ◌≤◌, ◌<◌, ◌++◌, [], count_by, length, slice_index, IfOk, OnOk, OnErr};
+ghost use Rattle.std.specs.Prelude.{◌≡◌, ◌≤◌, ◌<◌, ◌++◌, [], count_by, length, IfOk, OnOk, OnErr};
 ghost use Rattle.std.specs.Option.{option_map};
 ghost use Rattle.slot_page.specs.Slots.{IsDead, IsNormal};
 ghost use Rattle.slot_page.specs.Pages.{page_at, put_tid, slot_of, with_put_on, written};
@@ -11,8 +11,8 @@ ghost use Rattle.chunk_relation.specs.Relations.{AreAssigned, chunk_of, with_end
 
 use crate::TidList;
 use crate::chunk::{Chunk, ChunkView};
-use crate::pages::{add_dead, note_room, prune, put_on};
-use slot_page::{Page, Tid};
+use crate::pages::{add_dead, prune};
+use slot_page::{PageList, Tid};
 use std::alloc::{AllocError, Global};
 use std::marker::Model;
 use toast_io::Bytes;
@@ -22,25 +22,6 @@ use xact_status::XactTable;
 /// chunk's number and the header of the data.
 const OVERHEAD: u16 = 36;
 
-/// The number of classes of sizes: a chunk's tuple has at most 2,032 bytes, which are counted in eights.
-const CLASSES: usize = 255;
-
-/// The class of a size: an item takes its size rounded up to 8, so items of one class fit on the same pages.
-fn class_of(size: u16) -> usize
-    requires { size ≤ 2032 }
-    ensures class { result ≡ (size + 7) / 8 }
-    ensures within { result < CLASSES }
-{
-    (size as usize + 7) / 8
-}
-
-/// Where the searches for room begin in a relation without pages.
-fn from_the_first_page() -> [u64; CLASSES]
-    ensures { (class : ℕ) → slice_index result class ≡ 0 }
-{
-    [0; CLASSES]
-}
-
 /// The relation of a table's chunks.
 ///
 /// Contracts see its id and its pages, each as the list of its slots with what stands in them; so they
@@ -48,20 +29,15 @@ fn from_the_first_page() -> [u64; CLASSES]
 #[derive(Debug, Drop)]
 pub struct ChunkRel {
     rel_id: u32,
-    pages: Vec<Page<Chunk>>,
-    /// For each class of sizes, a page below which no page has room for it: a search for room begins
-    /// there, so a relation that grows is not gone through from its first page at each put.
-    lowest: [u64; CLASSES],
+    pages: PageList<Chunk>,
 }
 
 impl Model for ChunkRel {
-    ghost use Rattle.chunk_relation.specs.Relations.{IsKept, Relation};
+    ghost use Rattle.chunk_relation.specs.Relations.{Relation};
 
     ghost Value = { Relation };
 
-    ghost view = { λ rel. record { rel_id = rel.rel_id; pages = rel.pages.items } };
-
-    ghost invariant = { λ rel. IsKept rel.pages.items rel.lowest };
+    ghost view = { λ rel. record { rel_id = rel.rel_id; pages = rel.pages } };
 }
 
 impl ChunkRel {
@@ -71,8 +47,7 @@ impl ChunkRel {
     {
         ChunkRel {
             rel_id,
-            pages: Vec::new(alloc),
-            lowest: from_the_first_page(),
+            pages: PageList::new(alloc),
         }
     }
 
@@ -87,7 +62,7 @@ impl ChunkRel {
     pub fn pages(&self) -> u64
         ensures { result ≡ length self.now.pages }
     {
-        self.pages.len() as u64
+        self.pages.len()
     }
 
     /// Puts a chunk, of 1 to 1,996 bytes, on the lowest page where it fits, else on a new one, and
@@ -106,25 +81,21 @@ impl ChunkRel {
         ensures unchanged { OnErr result (self.new ≡ self.old) }
     {
         let size = OVERHEAD + bytes.len() as u16;
-        let class = class_of(size);
         let chunk = Chunk {
             value_id,
             seq,
             inserter,
             ender: None,
-            bytes: Bytes::from_slice(*self.pages.allocator(), bytes)?,
+            bytes: Bytes::from_slice(self.pages.allocator(), bytes)?,
         };
-        let tid = put_on(&mut self.pages, self.lowest[class] as usize, size, chunk)?;
-        self.lowest[class] = tid.page;
-        Ok(tid)
+        self.pages.put(size, chunk)
     }
 
     /// The chunk at a tid, if there is one.
     pub fn chunk_at(&self, tid: Tid) -> Option<ChunkView<'_>>
         ensures { option_map chunk_shown result ≡ chunk_of self.now tid }
     {
-        let page = self.pages.get(tid.page as usize)?;
-        let chunk = page.get(tid.slot)?;
+        let chunk = self.pages.get(tid)?;
         Some(chunk.view())
     }
 
@@ -133,7 +104,7 @@ impl ChunkRel {
         requires { IsNormal (slot_of self.old.pages tid) }
         ensures { self.new ≡ record self.old { pages = with_ended xid self.old.pages tid } }
     {
-        match self.pages[tid.page as usize].get_mut(tid.slot) {
+        match self.pages.get_mut(tid) {
             Some(chunk) => chunk.ender = Some(xid),
             None => unreachable!(),
         }
@@ -157,13 +128,12 @@ impl ChunkRel {
         ensures unchanged { OnErr result (self.new ≡ self.old) }
         ensures list { OnErr result (dead.new ≡ dead.old) }
     {
-        add_dead(&self.pages[page as usize], page, xacts, horizon, dead)?;
-        let count = prune(&mut self.pages[page as usize], xacts, horizon);
-        if count == 0 {
+        let before = dead.len();
+        add_dead(self.pages.page(page), page, xacts, horizon, dead)?;
+        if dead.len() == before {
             return Ok(0);
         }
-        note_room(&mut self.lowest, page);
-        Ok(count)
+        Ok(prune(self.pages.page_mut(page), xacts, horizon))
     }
 
     /// Frees a dead slot for another chunk.
@@ -171,7 +141,6 @@ impl ChunkRel {
         requires { IsDead (slot_of self.old.pages tid) }
         ensures { self.new ≡ record self.old { pages = written self.old.pages tid LinePointer.Unused } }
     {
-        self.pages[tid.page as usize].make_unused(tid.slot);
-        note_room(&mut self.lowest, tid.page);
+        self.pages.page_mut(tid.page).make_unused(tid.slot);
     }
 }

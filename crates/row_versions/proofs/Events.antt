@@ -1,5 +1,5 @@
 -- What stands at each tid of a relation after each change: the relation as a map from tids to versions.
-use Rattle.std.proofs.Common.{ℕ, ℤ, ◌≡◌, ◌≢◌, ◌<◌, ◌⊎◌, inl, inr, true, false, cond, Option, Some, None, is_some, Bor, List, [], length, get_or, map, refl, sym, ap, ◌∙◌, All, subst}
+use Rattle.std.proofs.Common.{ℕ, ℤ, ◌≡◌, ◌≢◌, ◌⊎◌, inl, inr, true, false, cond, Option, Some, None, is_some, Bor, List, [], length, map, refl, sym, ap, ◌∙◌, All, subst}
 use Rattle.std.specs.Option.{option_copied}
 use Rattle.std.proofs.lemmas.Option.{same_Some, none-some}
 use Rattle.std.proofs.lemmas.Bool.{cases_eq, cases_lt, cases_Bool, cond_both}
@@ -79,10 +79,8 @@ none_dead_after xacts horizon Dead = refl
 none_dead_after xacts horizon Unused = refl
 
 -- the transactions that the versions of a page name were given their xids, where those of the relation were
-pub page_assigned : (xacts : Xacts) (pages : Pages) (page : ℕ) (slots : List (LinePointer Version)) → slots ≡ get_or pages page slots → page < length pages → AreAssigned xacts pages → All (IsLineAssigned xacts) slots
-page_assigned xacts pages page slots read there assigned = λ k d within.
-    let same : slots ≡ page_at pages page = read ∙ get_or_default pages page slots [] there in
-    rw (get_or_default slots k d Unused within, same) (assigned.each (record { page = page; slot = k }))
+pub page_assigned : (xacts : Xacts) (pages : Pages) (page : ℕ) → AreAssigned xacts pages → All (IsLineAssigned xacts) (page_at pages page)
+page_assigned xacts pages page assigned = λ k d within. rw (get_or_default (page_at pages page) k d Unused within) (assigned.each (record { page = page; slot = k }))
 
 -- those of a new version are, where its inserter's was
 pub new_assigned : (xacts : Xacts) (key : ℤ) (xid : ℕ) (tuple : List ℕ) → IsAssigned xacts xid → IsVersionAssigned xacts (new_version key xid tuple)

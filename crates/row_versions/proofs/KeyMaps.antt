@@ -1,14 +1,13 @@
 -- The key map after each change: its entries stay in order, each names a version of its key or a dead slot, and each version has its entry.
-use Rattle.std.proofs.Common.{ℕ, ◌≡◌, ◌≢◌, inl, inr, Bool, true, false, not, cond, Some, None, List, [], length, filter, get_or, slice_set, Contains, refl, sym, ap, ◌∙◌, subst}
+use Rattle.std.proofs.Common.{ℕ, ◌≡◌, ◌≢◌, inl, inr, Bool, true, false, not, cond, Some, None, List, [], filter, Contains, refl, sym, ap, ◌∙◌, subst}
 use Rattle.std.specs.Ordering.{is_lt}
-use Rattle.std.proofs.lemmas.Bool.{cases_Bool, cases_lt, cond_both}
-use Rattle.std.proofs.lemmas.List.{get_or_default, set_past}
+use Rattle.std.proofs.lemmas.Bool.{cases_Bool, cond_both}
 use Rattle.std.proofs.lemmas.List.Kept.{IsStrictlySortedBy-filter}
 use Rattle.slot_page.specs.declared.line.Tid.{Tid}
 use Rattle.slot_page.specs.declared.line.LinePointer.{LinePointer}
 use Rattle.slot_page.specs.declared.line.LinePointer.TheVariants.{Normal, Dead, Unused}
-use Rattle.slot_page.specs.Slots.{item_of, slot_at, with_item, IsDead}
-use Rattle.slot_page.specs.Pages.{page_at, slot_of, item_in, written, put_tid, with_put_on}
+use Rattle.slot_page.specs.Slots.{item_of, with_item, IsDead}
+use Rattle.slot_page.specs.Pages.{slot_of, item_in, written, put_tid, with_put_on}
 use Rattle.slot_page.proofs.Pages.{put_here, put_was_free, slot_of-put, slot_of-written}
 use Rattle.xact_status.specs.Xacts.{Xacts}
 use Rattle.row_versions.specs.declared.version.Version.{Version}
@@ -135,13 +134,6 @@ keys_put size version pages entries keys = record {
     absent : Contains entries new → ⊥
     absent held = rw (put_was_free size pages) at (keys.named new held)
 
--- a page that was read and changed is the page of the list, changed
-pub same_write : (pages : Pages) (page : ℕ) (slots : List (LinePointer Version)) (f : List (LinePointer Version) → List (LinePointer Version)) → slots ≡ get_or pages page slots → slice_set pages page (f slots) ≡ slice_set pages page (f (page_at pages page))
-same_write pages page slots f read = elim (cases_lt page (length pages)) [
-  | inl there ↦ ap (λ s. slice_set pages page (f s)) (read ∙ get_or_default pages page slots [] there)
-  | inr past ↦ set_past pages page (f slots) past ∙ sym (set_past pages page (f (page_at pages page)) past)
-]
-
 -- a slot whose version was written with another ender
 item_ended : (xid : ℕ) (line : LinePointer Version) (version : Version) → Some version ≡ item_of line → with_item line (record version { ender = Some xid }) ≡ ended xid line
 item_ended xid (Normal size item) version is = let same : version ≡ item = cc in ap (λ (v : Version). Normal size (record v { ender = Some xid })) same
@@ -149,10 +141,8 @@ item_ended xid Dead version is = refl
 item_ended xid Unused version is = refl
 
 -- the pages after a version was ended in place
-pub ended_in_place : (xid : ℕ) (pages : Pages) (tid : Tid) (slots : List (LinePointer Version)) (version : Version) → slots ≡ get_or pages tid.page slots → Some version ≡ item_of (slot_at slots tid.slot) → slice_set pages tid.page (slice_set slots tid.slot (with_item (slot_at slots tid.slot) (record version { ender = Some xid }))) ≡ pages_ended xid pages tid
-ended_in_place xid pages tid slots version read is =
-    ap (λ line. slice_set pages tid.page (slice_set slots tid.slot line)) (item_ended xid (slot_at slots tid.slot) version is)
-    ∙ same_write pages tid.page slots (λ s. slice_set s tid.slot (ended xid (slot_at s tid.slot))) read
+pub ended_in_place : (xid : ℕ) (pages : Pages) (tid : Tid) (version : Version) → Some version ≡ item_in pages tid → written pages tid (with_item (slot_of pages tid) (record version { ender = Some xid })) ≡ pages_ended xid pages tid
+ended_in_place xid pages tid version is = ap (written pages tid) (item_ended xid (slot_of pages tid) version is)
 
 -- a dead slot that no entry names is freed
 pub keys_reaped : (pages : Pages) (entries : List KeyEntry) (tid : Tid) → IsKeyMap pages entries → ((e : KeyEntry) → Contains entries e → e.tid ≢ tid) → IsKeyMap (written pages tid Unused) entries

@@ -1,4 +1,3 @@
-mod Steps
 mod Parts
 mod Sorted
 pub mod Entries

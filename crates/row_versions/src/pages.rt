@@ -1,95 +1,15 @@
-//! What is done on the pages of a relation.
+//! What is done on a page of a relation.
 
-ghost use Rattle.std.specs.Prelude.{◌≡◌, ℕ, ◌≤◌, ◌<◌, ◌++◌, [], false, length, map, take, All, count_by, IfOk, IfErr, OnOk, OnErr, slice_set};
-ghost use Rattle.slot_page.specs.Slots.{fits, slot_at, with_put};
-ghost use Rattle.slot_page.specs.Pages.{page_at, put_tid, with_put_on};
+ghost use Rattle.std.specs.Prelude.{◌≡◌, ◌<◌, ◌++◌, length, map, take, All, count_by, OnOk, OnErr, slice_set};
+ghost use Rattle.slot_page.specs.Slots.{slot_at};
 ghost use Rattle.row_versions.specs.Versions.{IsLineAssigned, is_newly_dead, pruned};
 ghost use Rattle.slot_page.specs.DeadSlots.{dead_tids, is_dead_line};
 
 use crate::TidList;
 use crate::version::Version;
-use slot_page::{NoRoom, Page, Slot, Tid};
-use std::alloc::{AllocError, Global};
+use slot_page::{Page, Slot, Tid};
+use std::alloc::AllocError;
 use xact_status::XactTable;
-
-/// Puts a version on the lowest page where it fits.
-fn put_within(
-    pages: &mut [Page<Version>],
-    size: u16,
-    version: Version,
-) -> Result<Tid, NoRoom<Version>>
-    requires least { 24 ≤ size }
-    requires most { size ≤ 8160 }
-    ensures tid { IfOk result (λ tid. tid ≡ put_tid size pages.old) }
-    ensures put { OnOk result (pages.new ≡ with_put_on size version pages.old) }
-    ensures full { OnErr result ((page : ℕ) → page < length pages.old → fits size (page_at pages.old page) ≡ false) }
-    ensures handed_back { IfErr result (λ none. none.item ≡ version) }
-    ensures unchanged { OnErr result (pages.new ≡ pages.old) }
-{
-    let mut version = version;
-    for page in 0..pages.len() {
-        match pages[page].put(size, version) {
-            Ok(slot) => {
-                return Ok(Tid {
-                    page: page as u64,
-                    slot,
-                });
-            }
-            Err(NoRoom { item }) => version = item,
-        }
-    }
-    Err(NoRoom { item: version })
-}
-
-/// A page with one version.
-fn page_with(alloc: Global, size: u16, version: Version) -> Result<Page<Version>, AllocError>
-    requires least { 24 ≤ size }
-    requires most { size ≤ 8160 }
-    ensures { IfOk result (λ page. page ≡ with_put size version []) }
-{
-    let mut page = Page::new(alloc)?;
-    match page.put(size, version) {
-        Ok(_) => Ok(page),
-        Err(_) => unreachable!(),
-    }
-}
-
-/// Puts a version on a new page; it fits on none that is there.
-fn put_after(pages: &mut Vec<Page<Version>>, size: u16, version: Version) -> Result<Tid, AllocError>
-    requires least { 24 ≤ size }
-    requires most { size ≤ 8160 }
-    requires full { (page : ℕ) → page < length pages.old.items → fits size (page_at pages.old.items page) ≡ false }
-    ensures tid { IfOk result (λ tid. tid ≡ put_tid size pages.old.items) }
-    ensures put { OnOk result (pages.new.items ≡ with_put_on size version pages.old.items) }
-    ensures unchanged { OnErr result (pages.new.items ≡ pages.old.items) }
-{
-    let alloc = *pages.allocator();
-    let tid = Tid {
-        page: pages.len() as u64,
-        slot: 0,
-    };
-    let page = page_with(alloc, size, version)?;
-    pages.push(page)?;
-    Ok(tid)
-}
-
-/// Puts a version on the lowest page where it fits, else on a new one.
-pub(crate) fn put_on(
-    pages: &mut Vec<Page<Version>>,
-    size: u16,
-    version: Version,
-) -> Result<Tid, AllocError>
-    requires least { 24 ≤ size }
-    requires most { size ≤ 8160 }
-    ensures tid { IfOk result (λ tid. tid ≡ put_tid size pages.old.items) }
-    ensures put { OnOk result (pages.new.items ≡ with_put_on size version pages.old.items) }
-    ensures unchanged { OnErr result (pages.new.items ≡ pages.old.items) }
-{
-    match put_within(pages, size, version) {
-        Ok(tid) => Ok(tid),
-        Err(NoRoom { item }) => put_after(pages, size, item),
-    }
-}
 
 /// Whether a slot has a version that no reader can see.
 fn has_dead_version(page: &Page<Version>, slot: u16, xacts: &XactTable, horizon: u64) -> bool

@@ -8,24 +8,17 @@ ghost use Rattle.row_versions.specs.Relations.{AreAssigned, is_seen_at, with_ver
 
 use crate::keys::KeyEntry;
 use crate::version::Version;
-use slot_page::{Page, Tid};
+use slot_page::{PageList, Tid};
 use snapshot_registry::{SnapId, SnapRegistry};
 use xact_status::XactTable;
 
-/// The version at a tid, if there is one.
-pub(crate) fn version_at(pages: &[Page<Version>], tid: Tid) -> Option<&Version>
-    ensures { option_copied result ≡ item_in pages.now tid }
-{
-    pages.get(tid.page as usize)?.get(tid.slot)
-}
-
 /// The n-th tid, from 0, of those that the entries name, at which there is a version.
-pub(crate) fn nth_version(pages: &[Page<Version>], entries: &[KeyEntry], n: usize) -> Option<Tid>
+pub(crate) fn nth_version(pages: &PageList<Version>, entries: &[KeyEntry], n: usize) -> Option<Tid>
     ensures { result ≡ slice_get (with_versions pages.now entries.now) n }
 {
     let mut left = n;
     for entry in entries {
-        if version_at(pages, entry.tid).is_some() {
+        if pages.get(entry.tid).is_some() {
             if left == 0 {
                 return Some(entry.tid);
             }
@@ -37,7 +30,7 @@ pub(crate) fn nth_version(pages: &[Page<Version>], entries: &[KeyEntry], n: usiz
 
 /// Whether a reader sees the version at a tid, if there is one.
 fn sees(
-    pages: &[Page<Version>],
+    pages: &PageList<Version>,
     tid: Tid,
     snap: SnapId,
     snaps: &SnapRegistry,
@@ -48,7 +41,7 @@ fn sees(
     requires assigned { IsLineAssigned xacts.now (slot_of pages.now tid) }
     ensures { result ≡ is_seen_at xacts.now snaps.now snap own pages.now tid }
 {
-    match version_at(pages, tid) {
+    match pages.get(tid) {
         Some(version) => snaps.sees(snap, xacts, version.inserter, version.ender, own),
         None => false,
     }
@@ -56,7 +49,7 @@ fn sees(
 
 /// The first tid, of those that the entries name, at which a reader sees the version.
 pub(crate) fn first_seen(
-    pages: &[Page<Version>],
+    pages: &PageList<Version>,
     entries: &[KeyEntry],
     snap: SnapId,
     snaps: &SnapRegistry,

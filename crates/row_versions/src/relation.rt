@@ -15,10 +15,10 @@ ghost use Rattle.row_versions.specs.declared.keys.KeyEntry.{KeyEntry};
 
 use crate::TidList;
 use crate::keys::{KeyEntry, entries_of, entry_of, insert_entry, remove_entries};
-use crate::pages::{add_dead, prune, put_on};
-use crate::reads::{first_seen, nth_version, version_at};
+use crate::pages::{add_dead, prune};
+use crate::reads::{first_seen, nth_version};
 use crate::version::Version;
-use slot_page::{Page, Tid};
+use slot_page::{PageList, Tid};
 use snapshot_registry::{SnapId, SnapRegistry};
 use std::alloc::{AllocError, Global};
 use std::marker::Model;
@@ -32,7 +32,7 @@ use xact_status::XactTable;
 #[derive(Debug, Drop)]
 pub struct RowVersions {
     schema: Schema,
-    pages: Vec<Page<Version>>,
+    pages: PageList<Version>,
     entries: Vec<KeyEntry>,
 }
 
@@ -41,9 +41,9 @@ impl Model for RowVersions {
 
     ghost Value = { Relation };
 
-    ghost view = { λ rel. record { schema = rel.schema; pages = rel.pages.items; entries = rel.entries.items } };
+    ghost view = { λ rel. record { schema = rel.schema; pages = rel.pages; entries = rel.entries.items } };
 
-    ghost invariant = { λ rel. IsKeyMap rel.pages.items rel.entries.items };
+    ghost invariant = { λ rel. IsKeyMap rel.pages rel.entries.items };
 }
 
 impl RowVersions {
@@ -53,7 +53,7 @@ impl RowVersions {
     {
         RowVersions {
             schema,
-            pages: Vec::new(alloc),
+            pages: PageList::new(alloc),
             entries: Vec::new(alloc),
         }
     }
@@ -69,7 +69,7 @@ impl RowVersions {
     pub fn pages(&self) -> u64
         ensures { result ≡ length self.now.pages }
     {
-        self.pages.len() as u64
+        self.pages.len()
     }
 
     /// Puts a version of the row at a key, a tuple of 24 to 8,160 bytes, on the lowest page where it
@@ -84,7 +84,7 @@ impl RowVersions {
         let size = tuple.len() as u16;
         self.entries.reserve(1)?;
         let version = Version::new(&key, inserter, tuple);
-        let tid = put_on(&mut self.pages, size, version)?;
+        let tid = self.pages.put(size, version)?;
         insert_entry(&mut self.entries, entry_of(&key, tid));
         Ok(tid)
     }
@@ -93,7 +93,7 @@ impl RowVersions {
     pub fn version_at(&self, tid: Tid) -> Option<&Version>
         ensures { option_copied result ≡ version_in self.now tid }
     {
-        version_at(&self.pages, tid)
+        self.pages.get(tid)
     }
 
     /// The tid of a version of the row at a key, counted from 0 in the order of tids, if there are as
@@ -129,7 +129,7 @@ impl RowVersions {
         requires { IsNormal (slot_of self.old.pages tid) }
         ensures { self.new ≡ with_ended xid self.old tid }
     {
-        match self.pages[tid.page as usize].get_mut(tid.slot) {
+        match self.pages.get_mut(tid) {
             Some(version) => version.ender = Some(xid),
             None => unreachable!(),
         }
@@ -153,8 +153,12 @@ impl RowVersions {
         ensures unchanged { OnErr result (self.new ≡ self.old) }
         ensures list { OnErr result (dead.new ≡ dead.old) }
     {
-        add_dead(&self.pages[page as usize], page, xacts, horizon, dead)?;
-        Ok(prune(&mut self.pages[page as usize], xacts, horizon))
+        let before = dead.len();
+        add_dead(self.pages.page(page), page, xacts, horizon, dead)?;
+        if dead.len() == before {
+            return Ok(0);
+        }
+        Ok(prune(self.pages.page_mut(page), xacts, horizon))
     }
 
     /// Takes the entries of the key map away that name one of these dead slots, and answers how many
@@ -175,6 +179,6 @@ impl RowVersions {
         requires unnamed { (entry : KeyEntry) → Contains self.old.entries entry → entry.tid ≢ tid }
         ensures { self.new ≡ with_reaped self.old tid }
     {
-        self.pages[tid.page as usize].make_unused(tid.slot);
+        self.pages.page_mut(tid.page).make_unused(tid.slot);
     }
 }

@@ -1,5 +1,5 @@
 -- The tids of a page's dead slots: which they are, and their order.
-use Rattle.std.proofs.Common.{ℕ, ◌≡◌, ◌<◌, ◌≤◌, ◌+◌, ◌-◌, inl, inr, Bool, true, false, cond, List, [], ◌∷◌, ◌++◌, length, get_or, map, drop, Contains, refl, sym, ap, ◌∙◌, arith, zero, suc, Some, slice_get, subst}
+use Rattle.std.proofs.Common.{ℕ, ◌≡◌, ◌<◌, ◌≤◌, ◌+◌, ◌-◌, inl, inr, Bool, true, false, cond, List, [], ◌∷◌, ◌++◌, length, get_or, map, drop, count_by, Contains, refl, sym, ap, ◌∙◌, arith, zero, suc, Some, slice_get, subst}
 use Rattle.std.proofs.lemmas.Option.{slice_get_within, get_or_from_slice_get}
 use Rattle.std.specs.List.Sorted.{IsSorted}
 use Rattle.std.specs.Ordering.{is_lt}
@@ -15,7 +15,9 @@ use Rattle.slot_page.specs.Pages.{page_at, slot_of}
 use Rattle.slot_page.specs.Tids.{tid_cmp}
 use Rattle.slot_page.proofs.Tids.{tid_same}
 use Rattle.slot_page.specs.DeadSlots.{tids_where, is_dead_line, dead_tids}
+use Rattle.std.proofs.lemmas.List.Sums.{sum_by-cons}
 use Rattle.list_facts.proofs.Members.{none_in_nil, cases_in, first_in, later_in}
+use Rattle.slot_page.proofs.Loops.{map_none}
 
 -- the tids where the slots pass a test after a change are those where they pass the changed test before it
 pub tids_where-map : {T : Type 0} (test : LinePointer T → Bool) (f : LinePointer T → LinePointer T) (page slot : ℕ) (lines : List (LinePointer T)) → tids_where test page slot (map f lines) ≡ tids_where (λ line. test (f line)) page slot lines
@@ -140,3 +142,34 @@ pub gathered_are : {T : Type 0} (pages : List (List (LinePointer T))) (page : �
 gathered_are pages page dead t is held =
     let named = dead_tids_are page (page_at pages page) t (subst (λ ts. Contains ts t) is held) in
     rw named.0 named.1
+
+-- where nothing is gathered of a page after a prune, none of its slots passed the prune's test
+none_passed : {T : Type 0} (p : LinePointer T → Bool) (page slot : ℕ) (lines : List (LinePointer T)) → tids_where is_dead_line page slot (map (λ line. cond (p line) Dead line) lines) ≡ [] → count_by p lines ≡ 0
+none_passed p page slot [] none = refl
+none_passed {T} p page slot (line ∷ lines) none = by_tests (p line) (is_dead_line line) refl refl (none_passed p page (suc slot) lines)
+  where
+    rest : List Tid
+    rest = tids_where is_dead_line page (suc slot) (map (λ l. cond (p l) Dead l) lines)
+
+    differ : record { page = page; slot = slot } ∷ rest ≡ [] → ⊥
+    differ e = cc
+
+    -- what is gathered, by whether the slot passes
+    by_pass : (b : Bool) → p line ≡ b → cond (is_dead_line (cond b Dead line)) (record { page = page; slot = slot } ∷ rest) rest ≡ []
+    by_pass b is = ap (λ a. cond (is_dead_line (cond a Dead line)) (record { page = page; slot = slot } ∷ rest) rest) (sym is) ∙ none
+
+    by_tests : (b d : Bool) → p line ≡ b → is_dead_line line ≡ d → (rest ≡ [] → count_by p lines ≡ 0) → count_by p (line ∷ lines) ≡ 0
+    by_tests true d passes dead later = absurd (differ (by_pass true passes))
+    by_tests false true fails dead later = absurd (differ (ap (λ a. cond a (record { page = page; slot = slot } ∷ rest) rest) (sym dead) ∙ by_pass false fails))
+    by_tests false false fails alive later = omega (arith, sum_by-cons (λ l. cond (p l) 1 0) line lines, ap {B = ℕ} (λ b. cond b 1 0) fails, later (ap (λ a. cond a (record { page = page; slot = slot } ∷ rest) rest) (sym alive) ∙ by_pass false fails))
+
+-- so the prune leaves the page as it is
+pub none_gathered : {T : Type 0} (p : LinePointer T → Bool) (page : ℕ) (slots : List (LinePointer T)) (before after : List Tid) → after ≡ before ++ dead_tids page (map (λ line. cond (p line) Dead line) slots) → length after ≡ length before → (count_by p slots ≡ 0) × (map (λ line. cond (p line) Dead line) slots ≡ slots)
+none_gathered p page slots before after gathered same =
+    let pruned = map (λ line. cond (p line) Dead line) slots in
+    let none : count_by p slots ≡ 0 = none_passed p page 0 slots (length_zero (dead_tids page pruned) (omega (arith, length-append before (dead_tids page pruned), ap length gathered, same))) in
+    (none, map_none p Dead slots none)
+  where
+    length_zero : {X : Type 0} (xs : List X) → length xs ≡ 0 → xs ≡ []
+    length_zero [] e = refl
+    length_zero (x ∷ xs) e = absurd (omega (arith, e))

@@ -3,4 +3,8 @@ mod Rooms
 pub mod Tids
 mod Searches
 pub mod Pages
+mod Fits
+mod Kept
+mod Puts
+pub mod Loops
 pub mod Gathered

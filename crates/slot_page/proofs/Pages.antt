@@ -3,7 +3,7 @@ use Rattle.std.proofs.Common.{ℕ, ◌≡◌, ◌≢◌, ◌<◌, ◌≤◌, ◌
 use Rattle.std.proofs.lemmas.Grind.{common_steps, get_or-set_at}
 use Rattle.std.proofs.lemmas.Bool.{cases_lt}
 use Rattle.std.proofs.lemmas.Bool.Decides.{nat_tests}
-use Rattle.std.proofs.lemmas.List.{get_or_past, get_or_push}
+use Rattle.std.proofs.lemmas.List.{get_or_default, get_or_past, get_or_push, set_past}
 use Rattle.std.proofs.Math.ListN.{get_or-map}
 use Rattle.std.proofs.lemmas.List.Sums.{passes_at_first, fails_before_first, position_or_len_is, prefix_len-le-length}
 use Rattle.slot_page.proofs.Lookups.{get_or-set, get_or-push, changed_or_added, changed_or_added_here}
@@ -13,6 +13,7 @@ use Rattle.slot_page.specs.declared.line.LinePointer.TheVariants.{Normal, Dead, 
 use Rattle.slot_page.specs.Slots.{is_unused, IsNormal, IsDead, item_of, with_item, slot_at, first_unused, fits, with_put}
 use Rattle.slot_page.specs.Pages.{page_at, slot_of, item_in, written, fit_page, put_tid, with_put_on}
 use Rattle.slot_page.proofs.Tids.{tid_same}
+use Rattle.slot_page.proofs.Rooms.{set_is}
 
 -- a slot after a change of one place is as before, or it is that place with what was written
 pub slot_of-written : {T : Type 0} (pages : List (List (LinePointer T))) (t u : Tid) (line : LinePointer T) → (slot_of (written pages t line) u ≡ slot_of pages u) ⊎ ((u ≡ t) × (slot_of (written pages t line) u ≡ line))
@@ -41,6 +42,13 @@ written_here pages t line used =
     let slot_there = used_within (page_at pages t.page) t.slot used in
     let page_there = page_within pages t.page t.slot slot_there in
     ap (λ slots. slot_at slots t.slot) (get_or-set_at pages t.page t.page (slice_set (page_at pages t.page) t.slot line) [] refl page_there) ∙ get_or-set_at (page_at pages t.page) t.slot t.slot line Unused refl slot_there
+
+-- a page written with its own slots
+pub page_same : {T : Type 0} (pages : List (List (LinePointer T))) (page : ℕ) → slice_set pages page (page_at pages page) ≡ pages
+page_same pages page = elim (cases_lt page (length pages)) [
+  | inl there ↦ set_is pages page (page_at pages page) (get_or_default pages page [] (page_at pages page) there)
+  | inr past ↦ set_past pages page (page_at pages page) past
+]
 
 -- every other slot stays
 pub written_elsewhere : {T : Type 0} (pages : List (List (LinePointer T))) (t u : Tid) (line : LinePointer T) → u ≢ t → slot_of (written pages t line) u ≡ slot_of pages u

@@ -23,11 +23,11 @@ slot_is [] slot line h e = absurd (omega (arith, h))
 slot_is (x ∷ xs) zero line h e = sym e
 slot_is (x ∷ xs) (suc slot) line h e = slot_is xs slot line (omega (arith, h)) e
 
--- a slot written with what stands there
-pub set_is : {T : Type 0} (slots : List (LinePointer T)) (slot : ℕ) (line : LinePointer T) → line ≡ slice_index_or slots slot line → slice_set slots slot line ≡ slots
-set_is [] slot line e = refl
-set_is (x ∷ xs) zero line e = ap (λ first. first ∷ xs) e
-set_is (x ∷ xs) (suc slot) line e = ap (λ rest. x ∷ rest) (set_is xs slot line e)
+-- a place of a list written with what stands there
+pub set_is : {X : Type 0} (xs : List X) (k : ℕ) (x : X) → x ≡ slice_index_or xs k x → slice_set xs k x ≡ xs
+set_is [] k x e = refl
+set_is (y ∷ ys) zero x e = ap (λ first. first ∷ ys) e
+set_is (y ∷ ys) (suc k) x e = ap (λ rest. y ∷ rest) (set_is ys k x e)
 
 -- the first unused slot that a search found
 pub found : {T : Type 0} (slots : List (LinePointer T)) (slot : ℕ) → Some slot ≡ position is_unused slots → (first_unused slots ≡ slot) × (slot < length slots)

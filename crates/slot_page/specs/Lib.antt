@@ -2,4 +2,5 @@ pub mod Slots
 pub mod Lends
 pub mod Tids
 pub mod Pages
+pub mod Marks
 pub mod DeadSlots

@@ -4,10 +4,12 @@
 
 mod line;
 mod page;
+mod page_list;
 mod search;
 #[cfg(test)]
 mod tests;
 
 pub use line::{LinePointer, Slot, Tid};
 pub use page::{NoRoom, Page};
+pub use page_list::PageList;
 pub use search::is_listed;

@@ -1,5 +1,6 @@
-use crate::{NoRoom, Page, Slot, Tid, is_listed};
+use crate::{NoRoom, Page, PageList, Slot, Tid, is_listed};
 use std::alloc::{AllocError, Global};
+use std::process::Abort;
 
 /// A page on which items of 24 bytes, 0 and up, were put until it was full.
 fn full_page(alloc: Global) -> Result<Page<u32>, AllocError> {
@@ -81,6 +82,61 @@ fn an_item_is_written_in_place(rt: HostRuntime) -> Result<(), AllocError> {
     assert!(rt; page.get_mut(291).is_none());
     assert!(rt; page.get(0).is_some_and(|item| *item == 0));
     assert!(rt; page.get(1).is_some_and(|item| *item == 7));
+    Ok(())
+}
+
+/// Puts items, each its own size, and looks where they lie.
+fn put_each(
+    rt: &impl Abort,
+    pages: &mut PageList<u16>,
+    puts: &[(u16, Tid)],
+) -> Result<(), AllocError> {
+    for (size, tid) in puts {
+        assert!(rt; 24 <= *size);
+        assert!(rt; *size <= 8160);
+        assert_eq!(rt; pages.put(*size, *size)?, *tid);
+    }
+    Ok(())
+}
+
+fn at(page: u64, slot: u16) -> Tid {
+    Tid { page, slot }
+}
+
+#[test]
+fn an_item_goes_on_the_lowest_page_with_room(rt: HostRuntime) -> Result<(), AllocError> {
+    let mut pages = PageList::new(rt.alloc());
+    let puts = [
+        (8160, at(0, 0)),
+        (24, at(1, 0)),
+        (8160, at(2, 0)),
+        (4000, at(1, 1)),
+        (4000, at(1, 2)),
+        (4000, at(3, 0)),
+        (24, at(1, 3)),
+    ];
+    put_each(&rt, &mut pages, &puts)?;
+    assert!(rt; pages.len() == 4 && pages.page(1).len() == 4);
+    // Where a page has room again, later puts find it.
+    let page = pages.page_mut(0);
+    assert!(rt; take(page, 0) == Some(8160));
+    free(page, 0);
+    put_each(
+        &rt,
+        &mut pages,
+        &[(4000, at(0, 0)), (4000, at(0, 1)), (4000, at(3, 1))],
+    )
+}
+
+#[test]
+fn an_item_is_written_at_its_tid(rt: HostRuntime) -> Result<(), AllocError> {
+    let mut pages = PageList::new(rt.alloc());
+    put_each(&rt, &mut pages, &[(8160, at(0, 0)), (24, at(1, 0))])?;
+    if let Some(item) = pages.get_mut(at(1, 0)) {
+        *item = 7;
+    }
+    assert!(rt; pages.get(at(1, 0)) == Some(&7) && pages.get(at(0, 0)) == Some(&8160));
+    assert!(rt; pages.get_mut(at(2, 0)).is_none() && pages.get(at(0, 1)).is_none());
     Ok(())
 }
 

@@ -1,7 +1,7 @@
 use Rattle.std.proofs.Common.{◌<◌, length, arith}
 use Rattle.slot_page.specs.declared.line.LinePointer.TheVariants.{Unused}
 use Rattle.chunk_relation.specs.Chunks.{is_newly_dead, pruned}
-use Rattle.chunk_relation.proofs.Steps.{mapped_more, unreached, counted_more, one_at_most}
+use Rattle.slot_page.proofs.Loops.{mapped_more, unreached, counted_more, one_at_most}
 use Rattle.chunk_relation.proofs.pages.prune.Goals as goal
 
 pub loop-slot-preserved : goal.loop-slot-preserved

@@ -1,15 +1,37 @@
+-- A page with no dead slot after a prune is as it was before.
+use Rattle.std.proofs.Common.{◌≡◌, ◌++◌, slice_set, map, sym, ap, ◌∙◌, arith}
+use Rattle.slot_page.specs.Pages.{page_at}
+use Rattle.slot_page.specs.DeadSlots.{dead_tids}
+use Rattle.slot_page.proofs.Pages.{page_same}
+use Rattle.slot_page.proofs.Gathered.{none_gathered}
+use Rattle.chunk_relation.specs.Chunks.{is_newly_dead, pruned}
 use Rattle.chunk_relation.proofs.Events.{page_assigned}
-use Rattle.chunk_relation.proofs.Kept.{kept_noted, kept_unpruned}
 use Rattle.chunk_relation.proofs.relation.ChunkRel.prune_page.Goals as goal
 
 pub add_dead-requires : goal.add_dead-requires
-add_dead-requires c = page_assigned c.args.xacts.now c.self.inside.pages.items c.args.page c.index.result.now c.index.ensures (rw (← c.self.view_is) at c.requires.there) (rw (← c.self.view_is) at c.requires.assigned)
+add_dead-requires c = rw c.page.ensures (page_assigned c.args.xacts.now c.self.inside.pages c.args.page (rw (← c.self.view_is) at c.requires.assigned))
 
-pub prune-count-requires : goal.prune-count-requires
-prune-count-requires c = page_assigned c.args.xacts.now c.self.inside.pages.items c.args.page c.index_mut.result.now c.index_mut.ensures.value (rw (← c.self.view_is) at c.requires.there) (rw (← c.self.view_is) at c.requires.assigned)
+pub prune-requires : goal.prune-requires
+prune-requires c = rw c.page_mut.ensures.page (page_assigned c.args.xacts.now c.self.inside.pages c.args.page (rw (← c.self.view_is) at c.requires.assigned))
 
-pub invariant_of-self : goal.invariant_of-self
-invariant_of-self c = kept_unpruned c.args.xacts.now c.args.horizon c.prune-count.result c.self.inside.pages.items c.self.inside.lowest c.args.page c.index_mut.result.now c.prune-count.new.page (rw (← c.self.view_is) at c.requires.there) c.index_mut.ensures.value c.prune-count.ensures.count c.if-count-eq0.true c.prune-count.ensures.pruned c.self.invariant
+pub returns-then-len-before-clause-count : goal.returns-then-len-before-clause-count
+returns-then-len-before-clause-count c =
+    let slots = page_at c.self.inside.pages c.args.page in
+    let gathered : c.add_dead.new.dead ≡ c.args.dead.now ++ dead_tids c.args.page (map (pruned c.args.xacts.now c.args.horizon) slots) = c.in_ok-add_dead.ensures.gathered ∙ ap (λ s. c.args.dead.now ++ dead_tids c.args.page (map (pruned c.args.xacts.now c.args.horizon) s)) c.page.ensures in
+    let none = none_gathered (is_newly_dead c.args.xacts.now c.args.horizon) c.args.page slots c.args.dead.now c.add_dead.new.dead gathered (omega (arith, c.len.ensures, c.len-before.ensures, c.if-len-before.true)) in
+    rw (← c.self.view_is) (sym none.0)
 
-pub invariant_of-self-2 : goal.invariant_of-self-2
-invariant_of-self-2 c = rw c.note_room.ensures (kept_noted c.self.inside.pages.items c.self.inside.lowest c.args.page c.prune-count.new.page c.self.invariant)
+pub returns-then-len-before-clause-pruned : goal.returns-then-len-before-clause-pruned
+returns-then-len-before-clause-pruned c =
+    let slots = page_at c.self.inside.pages c.args.page in
+    let gathered : c.add_dead.new.dead ≡ c.args.dead.now ++ dead_tids c.args.page (map (pruned c.args.xacts.now c.args.horizon) slots) = c.in_ok-add_dead.ensures.gathered ∙ ap (λ s. c.args.dead.now ++ dead_tids c.args.page (map (pruned c.args.xacts.now c.args.horizon) s)) c.page.ensures in
+    let none = none_gathered (is_newly_dead c.args.xacts.now c.args.horizon) c.args.page slots c.args.dead.now c.add_dead.new.dead gathered (omega (arith, c.len.ensures, c.len-before.ensures, c.if-len-before.true)) in
+    let kept = sym (ap (slice_set c.self.inside.pages c.args.page) none.1 ∙ page_same c.self.inside.pages c.args.page) in
+    rw (← c.self.view_is) (λ i. record { rel_id = c.self.inside.rel_id; pages = kept i })
+
+pub returns-then-len-before-clause-gathered : goal.returns-then-len-before-clause-gathered
+returns-then-len-before-clause-gathered c =
+    let slots = page_at c.self.inside.pages c.args.page in
+    let gathered : c.add_dead.new.dead ≡ c.args.dead.now ++ dead_tids c.args.page (map (pruned c.args.xacts.now c.args.horizon) slots) = c.in_ok-add_dead.ensures.gathered ∙ ap (λ s. c.args.dead.now ++ dead_tids c.args.page (map (pruned c.args.xacts.now c.args.horizon) s)) c.page.ensures in
+    let none = none_gathered (is_newly_dead c.args.xacts.now c.args.horizon) c.args.page slots c.args.dead.now c.add_dead.new.dead gathered (omega (arith, c.len.ensures, c.len-before.ensures, c.if-len-before.true)) in
+    rw (← c.self.view_is) (gathered ∙ ap (λ s. c.args.dead.now ++ dead_tids c.args.page s) none.1)

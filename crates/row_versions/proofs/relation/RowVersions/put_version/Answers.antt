@@ -9,7 +9,7 @@ use Rattle.row_versions.proofs.relation.RowVersions.put_version.Goals as goal
 
 pub invariant_of-self-2 : goal.invariant_of-self-2
 invariant_of-self-2 c =
-    let pages = c.self.inside.pages.items in
+    let pages = c.self.inside.pages in
     let entries = c.self.inside.entries.items in
     rw (c.in_ok-tid.ensures.put, c.insert_entry.ensures, c.reserve.ensures.items, c.entry_of.ensures, c.in_ok-tid.ensures.tid)
     (subst (λ k. IsKeyMap (with_put_on c.len-size.result c.new-version.result pages) (with_entry entries (entry k (put_tid c.len-size.result pages)))) (ap (λ (v : Version). v.key) c.new-version.ensures)

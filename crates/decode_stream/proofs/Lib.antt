@@ -1,0 +1,9 @@
+pub mod Bounds
+pub mod Columns
+pub mod Firsts
+pub mod Lists
+pub mod Opens
+pub mod Parts
+pub mod Results
+pub mod Tables
+pub mod Wholes

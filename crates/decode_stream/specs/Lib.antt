@@ -1,0 +1,4 @@
+pub mod Decoding
+pub mod States
+pub mod Rows
+pub mod Parts

@@ -1,0 +1,28 @@
+//! The transactions that the log tells, each with its changes, in the order of their commits: values
+//! that were logged as chunks are put together again.
+//!
+//! Source: the PostgreSQL 17 documentation, "Logical Decoding"; the chunks are put together as by
+//! `ReorderBufferToastReplace` of reorderbuffer.c.
+#![tactic(auto)]
+
+mod decoder;
+mod fault;
+mod gathered;
+mod open;
+mod row;
+mod split;
+mod table;
+mod transaction;
+mod whole;
+mod worker;
+
+pub use change_log::{Log, LogEntry};
+pub use decoder::Decoder;
+pub use fault::DecodeFault;
+pub use split::decode_all;
+pub use stream_wire::Message;
+pub use transaction::{MessageList, Transaction, TransactionList};
+pub use whole::decode_log;
+
+#[cfg(test)]
+mod tests;

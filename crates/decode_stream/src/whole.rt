@@ -1,0 +1,48 @@
+//! A whole log, decoded in order.
+
+ghost use Rattle.std.specs.Prelude.{◌≡◌, ◌+◌, ◌<◌, ◌^◌, ◌++◌, ◌∷◌, [], List, OnOk};
+ghost use Rattle.change_log.specs.declared.entry.LogEntry.{LogEntry};
+ghost use Rattle.decode_stream.specs.Decoding.{first_fault, xid_of};
+ghost use Rattle.decode_stream.specs.States.{Decodes, Fits, IsDecodable, IsDecoded, IsSent, Tells, found_of, open_at};
+
+use crate::decoder::Decoder;
+use crate::fault::DecodeFault;
+use crate::transaction::TransactionList;
+use change_log::{Log, LogEntry};
+use list_facts::ListOf;
+use std::alloc::Global;
+
+/// Feeds an entry to the decoder, and adds the transaction that it commits.
+fn send_next(
+    decoder: &mut Decoder,
+    sent: &mut TransactionList,
+    e: &LogEntry,
+) -> Result<(), DecodeFault>
+    requires given { decoder.old.given + 1 < 2 ^ 32 }
+    requires fits { Fits (found_of (open_at decoder.old.table (xid_of e.now))) e.now }
+    ensures ok { OnOk result ((log : List LogEntry) → IsSent decoder.old sent.old log → IsSent decoder.new sent.new (log ++ e.now ∷ [])) }
+    ensures fault { (log : List LogEntry) → Decodes decoder.old log → Tells (first_fault (log ++ e.now ∷ [])) result }
+{
+    if let Some(transaction) = decoder.feed(e)? {
+        sent.push(transaction)?;
+    }
+    Ok(())
+}
+
+/// The transactions of a log, or its first fault.
+///
+/// It takes time in the entries and their bytes; a chunk's bytes are copied once.
+pub fn decode_log(alloc: Global, log: &Log) -> Result<TransactionList, DecodeFault>
+    requires { IsDecodable log.now.entries }
+    ensures { IsDecoded log.now.entries result }
+{
+    let mut decoder = Decoder::new(alloc)?;
+    let mut sent = ListOf::new(alloc);
+    for n in 0..log.len() {
+        let Some(e) = log.at(n) else {
+            unreachable!();
+        };
+        send_next(&mut decoder, &mut sent, e)?;
+    }
+    Ok(sent)
+}

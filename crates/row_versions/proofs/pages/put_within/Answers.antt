@@ -1,8 +1,0 @@
-use Rattle.row_versions.proofs.Steps.{put_found, tid_found}
-use Rattle.row_versions.proofs.pages.put_within.Goals as goal
-
-pub returns-in-Ok-clause-tid : goal.returns-in-Ok-clause-tid
-returns-in-Ok-clause-tid c = tid_found c.args.size c.loop-page.page c.in-Ok.slot c.loop-page.pages c.args.pages.now c.index-pages-page.result c.loop-page.invariant.same c.loop-page-test.true c.loop-page.invariant.full_below c.in-Ok.ensures.fits c.in-Ok.ensures.slot
-
-pub returns-in-Ok-clause-put : goal.returns-in-Ok-clause-put
-returns-in-Ok-clause-put c = put_found c.args.size c.loop-page.page c.args.version c.loop-page.version c.loop-page.pages c.args.pages.now c.index-pages-page.result c.put.new.self c.loop-page.invariant.same c.loop-page.invariant.item c.loop-page-test.true c.loop-page.invariant.full_below c.in-Ok.ensures.fits c.in-Ok.ensures.put

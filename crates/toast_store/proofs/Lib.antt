@@ -1,0 +1,15 @@
+pub mod Names
+pub mod Used
+pub mod Chosen
+pub mod Kept
+pub mod Pieces
+pub mod Saving
+pub mod OwnLeaf
+pub mod Walked
+pub mod Outcomes
+pub mod Marking
+pub mod Spans
+pub mod Wholes
+pub mod Ahead
+pub mod Each
+pub mod Marked

@@ -1,0 +1,59 @@
+-- Marking a dropped value's chunks as ended by a transaction.
+use Rattle.std.specs.Prelude.{ℕ, ◌≡◌, ◌<◌, ◌⊎◌, Option, Some, None, Contains, ⊤, if◌then◌else◌, is_some}
+use Rattle.external_pointer.specs.declared.external.Pointer.{Pointer}
+use Rattle.slot_page.specs.Pages.{item_in}
+use Rattle.chunk_relation.specs.declared.chunk.Chunk.{Chunk}
+use Rattle.chunk_relation.specs.Relations.{Pages, with_ended}
+use Rattle.chunk_index.specs.declared.entry.Entry.{Entry}
+use Rattle.toast_store.specs.Stores.{Store}
+use Rattle.toast_store.specs.Values.{piece_count}
+use Rattle.toast_store.specs.Walks.{Walking, IsOfWalk, CanStep, new_walk, ahead, entry_at, index_walked}
+use Rattle.toast_store.specs.declared.mark.MarkStep.{MarkStep}
+use Rattle.toast_store.specs.declared.mark.MarkStep.TheVariants.{More, Done}
+use Rattle.toast_store.specs.declared.walk.WalkStage.TheVariants.{Over}
+
+-- a mark: the transaction that ends the value, and its walk
+pub record Marking : Type 0 where
+  pub xid : ℕ
+  pub walk : Walking
+
+-- a mark before its first step
+abbrev pub new_mark : Pointer → ℕ → ℕ → Marking
+new_mark pointer xid session = record { xid = xid; walk = new_walk pointer.value_id 0 (piece_count pointer.size) session }
+
+-- the pages with the chunk that an entry names ended, if it names one
+abbrev pub marked : ℕ → Pages → Option Entry → Pages
+marked xid pages None = pages
+marked xid pages (Some e) = if is_some (item_in pages e.tid) then with_ended xid pages e.tid else pages
+
+-- the store after a step: at most one chunk has the ender, and the walk goes on
+abbrev pub store_marked : Store → Marking → Store
+store_marked store mark = record { rel = record store.rel { pages = marked mark.xid store.rel.pages (entry_at mark.walk.stage) }; index = index_walked store.index mark.walk }
+
+-- the chunk that an entry names, if it names one, is ended by a transaction
+abbrev pub IsEnded : ℕ → Option Chunk → Type 0
+IsEnded xid None = ⊤
+IsEnded xid (Some chunk) = chunk.ender ≡ Some xid
+
+-- each entry of the value still lies ahead, or its chunk is ended
+pub record IsMarking (store : Store) (mark : Marking) : Type 0 where
+  pub each : (e : Entry) → Contains store.index.entries e → IsOfWalk mark.walk e → Contains (ahead store.index.entries mark.walk) e ⊎ IsEnded mark.xid (item_in store.rel.pages e.tid)
+
+-- each chunk of the value is ended
+pub record IsMarked (store : Store) (mark : Marking) : Type 0 where
+  pub each : (e : Entry) → Contains store.index.entries e → IsOfWalk mark.walk e → IsEnded mark.xid (item_in store.rel.pages e.tid)
+
+-- a step keeps that, and what it leaves is done
+abbrev pub IsMarkAnswer : Store → Marking → MarkStep → Type 0
+IsMarkAnswer store mark More = IsMarking store mark
+IsMarkAnswer store mark Done = IsMarked store mark
+
+-- a mark with steps left may make the next one in this store; one that is done is over
+abbrev pub IsMarkReady : Store → Marking → MarkStep → Type 0
+IsMarkReady store mark More = CanStep store.index mark.walk
+IsMarkReady store mark Done = mark.walk.stage ≡ Over
+
+-- a step that leaves some steps has taken one of them
+abbrev pub IsMarkProgress : ℕ → ℕ → MarkStep → Type 0
+IsMarkProgress before after More = (0 < after) × (after < before)
+IsMarkProgress before after Done = after ≡ 0

@@ -1,0 +1,24 @@
+//! A table's store of values out of line: a relation of chunks and the index that names them, and the
+//! jobs that save a value, fetch a part of one and mark one as ended, each by steps of one event.
+//!
+//! Documentation: "TOAST, Out-of-Line, On-Disk TOAST Storage".
+#![tactic(auto)]
+
+mod fault;
+mod fetch;
+#[cfg(test)]
+mod fetch_tests;
+mod mark;
+mod save;
+mod store;
+#[cfg(test)]
+mod tests;
+mod walk;
+
+pub use chunk_relation::TidList;
+pub use fault::FetchFault;
+pub use fetch::{Fetch, FetchStep};
+pub use mark::{Mark, MarkStep};
+pub use save::{Save, SaveStage, SaveStep};
+pub use store::ToastStore;
+pub use walk::{Walk, WalkStage};

@@ -20,8 +20,8 @@ use Rattle.toast_store.specs.declared.walk.WalkStage.{WalkStage}
 use Rattle.toast_store.specs.declared.walk.WalkStage.TheVariants.{Empty, Asking, Reading, Over}
 use Rattle.toast_store.specs.Stores.{Store, Names, IsStore, named_by}
 use Rattle.toast_store.specs.Values.{piece_in}
-use Rattle.toast_store.specs.Walks.{Walking, ahead, ahead_at, wanted_by}
-use Rattle.toast_store.specs.Between.{LeavesAhead, IsBatchNamed, IsAheadSpared, Puts, Adds, Ends, Prunes, Sweeps, Reaps, Pins, batch_left}
+use Rattle.toast_store.specs.Walks.{Walking, ahead, ahead_at, batch_left, wanted_by}
+use Rattle.toast_store.specs.Between.{LeavesAhead, IsBatchNamed, IsAheadSpared, Puts, Adds, Ends, Prunes, Sweeps, Reaps, Pins}
 use Rattle.toast_store.proofs.Chosen.{chosen_agree, chosen_map, chosen_filters, chosen_in}
 use Rattle.toast_store.proofs.Kept.{swept_listed, same_piece}
 

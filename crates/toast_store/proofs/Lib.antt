@@ -13,3 +13,4 @@ pub mod Wholes
 pub mod Ahead
 pub mod Each
 pub mod Marked
+pub mod Held

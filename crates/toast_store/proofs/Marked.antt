@@ -15,7 +15,7 @@ use Rattle.chunk_index.proofs.Sweeps.{left_was}
 use Rattle.toast_store.specs.declared.walk.WalkStage.{WalkStage}
 use Rattle.toast_store.specs.declared.walk.WalkStage.TheVariants.{Empty, Asking, Reading, Over}
 use Rattle.toast_store.specs.Stores.{Store, Names, IsStore}
-use Rattle.toast_store.specs.Walks.{Walking, IsOfWalk, ahead, ahead_at, wanted_by}
+use Rattle.toast_store.specs.Walks.{Walking, IsOfWalk, ahead_at, wanted_by}
 use Rattle.toast_store.specs.Marks.{Marking, IsEnded, IsMarking}
 use Rattle.toast_store.specs.Between.{Puts, Adds, Ends, Prunes, Sweeps, Reaps, Pins}
 use Rattle.toast_store.proofs.Kept.{end_item}

@@ -146,7 +146,7 @@ compared_all value span first end (suc m) a (c ∷ cs) some from to are = elim (
 ]
 
 -- the chunk in the slot of an entry has the entry's number
-numbered : (e : Entry) (line : LinePointer Chunk) (chunk : Chunk) → Names e line → item_of line ≡ Some chunk → chunk.seq ≡ e.seq
+pub numbered : (e : Entry) (line : LinePointer Chunk) (chunk : Chunk) → Names e line → item_of line ≡ Some chunk → chunk.seq ≡ e.seq
 numbered e (Normal size item) chunk names is = ap (λ (c : Chunk). c.seq) (sym (same_Some item chunk is)) ∙ names.1
 numbered e Dead chunk names is = absurd (none-some chunk is)
 numbered e Unused chunk names is = absurd (none-some chunk is)

@@ -1,5 +1,5 @@
 -- What others may do to a store between two steps of a job, each as the store before and after it.
-use Rattle.std.specs.Prelude.{ℕ, ◌≡◌, true, false, None, List, [], Contains, drop, ⊤}
+use Rattle.std.specs.Prelude.{ℕ, ◌≡◌, true, false, None, List, Contains, ⊤}
 use Rattle.slot_page.specs.declared.line.Tid.{Tid}
 use Rattle.slot_page.specs.declared.line.LinePointer.TheVariants.{Unused}
 use Rattle.slot_page.specs.Slots.{IsDead}
@@ -15,10 +15,8 @@ use Rattle.chunk_index.specs.Leaves.{Leaf}
 use Rattle.chunk_index.specs.Indexes.{unswept}
 use Rattle.toast_store.specs.declared.save.SaveStage.{SaveStage}
 use Rattle.toast_store.specs.declared.save.SaveStage.TheVariants.{Drawing, Putting, Indexing, Saved}
-use Rattle.toast_store.specs.declared.walk.WalkStage.{WalkStage}
-use Rattle.toast_store.specs.declared.walk.WalkStage.TheVariants.{Empty, Asking, Reading, Over}
 use Rattle.toast_store.specs.Stores.{Store, Names, IsUnnamed, NamesChunk, chunks_of, named_by}
-use Rattle.toast_store.specs.Walks.{Walking, ahead}
+use Rattle.toast_store.specs.Walks.{Walking, ahead, batch_left}
 
 -- the value with an id is as it was: the same chunks under it
 abbrev pub LeavesValue : ℕ → Store → Store → Type 0
@@ -78,14 +76,7 @@ pub record Pins (old new : Store) : Type 0 where
 pub record IsSpared (store : Store) (value_id : ℕ) (xacts : Xacts) (horizon : ℕ) : Type 0 where
   pub each : (chunk : Chunk) → Contains (chunks_of store value_id) chunk → is_dead_chunk xacts horizon chunk ≡ false
 
--- the entries of its batch that a walk has still to take
-abbrev pub batch_left : WalkStage → List Entry
-batch_left Empty = []
-batch_left (Asking after) = []
-batch_left (Reading batch at) = drop at batch.entries
-batch_left Over = []
-
--- each of them names a chunk of its id and number or a dead slot
+-- each entry of its batch that a walk has still to take names a chunk of its id and number or a dead slot
 pub record IsBatchNamed (store : Store) (walk : Walking) : Type 0 where
   pub each : (e : Entry) → Contains (batch_left walk.stage) e → Names e (slot_of store.rel.pages e.tid)
 

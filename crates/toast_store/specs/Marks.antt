@@ -35,6 +35,10 @@ abbrev pub IsEnded : ℕ → Option Chunk → Type 0
 IsEnded xid None = ⊤
 IsEnded xid (Some chunk) = chunk.ender ≡ Some xid
 
+-- what the next step ends, if anything, is a chunk of the value, with the number of one of its pieces
+pub record EndsOwn (store : Store) (mark : Marking) : Type 0 where
+  pub each : (e : Entry) (chunk : Chunk) → entry_at mark.walk.stage ≡ Some e → item_in store.rel.pages e.tid ≡ Some chunk → (chunk.value_id ≡ mark.walk.value_id) × (chunk.seq < mark.walk.end)
+
 -- each entry of the value still lies ahead, or its chunk is ended
 pub record IsMarking (store : Store) (mark : Marking) : Type 0 where
   pub each : (e : Entry) → Contains store.index.entries e → IsOfWalk mark.walk e → Contains (ahead store.index.entries mark.walk) e ⊎ IsEnded mark.xid (item_in store.rel.pages e.tid)

@@ -1,5 +1,5 @@
 -- A walk through the entries of a value, batch by batch: the leaf of a batch stays pinned while its entries are taken.
-use Rattle.std.specs.Prelude.{ℕ, ◌≡◌, ◌+◌, ◌-◌, ◌*◌, ◌<◌, ◌≤◌, Bool, true, false, nat_lt, max, if◌then◌else◌, Option, None, List, [], ◌∷◌, ◌++◌, length, drop, slice_get, ⊤}
+use Rattle.std.specs.Prelude.{ℕ, ◌≡◌, ◌+◌, ◌-◌, ◌*◌, ◌<◌, ◌≤◌, Bool, true, false, nat_lt, max, if◌then◌else◌, Option, None, List, [], ◌∷◌, ◌++◌, length, drop, slice_get, Contains, ⊤}
 use Rattle.chunk_index.specs.declared.entry.Entry.{Entry}
 use Rattle.chunk_index.specs.Entries.{wanted_of}
 use Rattle.chunk_index.specs.Pinned.{pin_of, without_pin}
@@ -84,6 +84,18 @@ ahead_at walk entries Over = []
 
 abbrev pub ahead : List Entry → Walking → List Entry
 ahead entries walk = ahead_at walk entries walk.stage
+
+-- the entries of its batch that a walk has still to take
+abbrev pub batch_left : WalkStage → List Entry
+batch_left Empty = []
+batch_left (Asking after) = []
+batch_left (Reading batch at) = drop at batch.entries
+batch_left Over = []
+
+-- each of them is of the walk's value, and stands in the index
+pub record IsBatchHeld (entries : List Entry) (walk : Walking) : Type 0 where
+  pub of_walk : (e : Entry) → Contains (batch_left walk.stage) e → IsOfWalk walk e
+  pub stands : (e : Entry) → Contains (batch_left walk.stage) e → Contains entries e
 
 -- the entry that the next step takes, if it takes one
 abbrev pub entry_at : WalkStage → Option Entry

@@ -6,11 +6,12 @@ ghost use Rattle.std.specs.Option.{option_map};
 ghost use Rattle.slot_page.specs.Pages.{item_in};
 ghost use Rattle.chunk_relation.specs.declared.chunk.Chunk.{Chunk};
 ghost use Rattle.chunk_relation.specs.Chunks.{chunk_shown, most_bytes};
+ghost use Rattle.chunk_index.specs.declared.entry.Entry.{Entry};
 ghost use Rattle.slice_fetch.specs.declared.Span.{Span};
 ghost use Rattle.slice_fetch.specs.Spans.{chunk_size};
 ghost use Rattle.toast_store.specs.Stores.{IsStore};
 ghost use Rattle.toast_store.specs.Values.{piece_size};
-ghost use Rattle.toast_store.specs.Walks.{IsUnderWay, MayAsk, index_walked, steps_left, walk_after};
+ghost use Rattle.toast_store.specs.Walks.{IsBatchHeld, IsStage, IsUnderWay, MayAsk, index_walked, steps_left, walk_after};
 ghost use Rattle.toast_store.specs.Fetches.{FetchesWhole, IsFetchAfter, IsFetchAnswer, IsFetchCause, IsFetchLeft, IsFetchProgress, IsFetchReady, compared, comparison, end_of, fetch_after, first_of, new_fetch, outcome, part_of, store_after_fault, with_chunk};
 
 use crate::fault::FetchFault;
@@ -132,6 +133,7 @@ impl Fetch {
         requires within { span.end ≤ p.size }
         ensures fetch { IfOk result (λ fetch. fetch ≡ new_fetch p span session) }
         ensures whole { IfOk result (FetchesWhole p span) }
+        ensures batch { IfOk result (λ fetch. (entries : List Entry) → IsBatchHeld entries fetch.walk) }
     {
         let (first, end) = pieces_of(span);
         let mut got = Bytes::new(alloc);
@@ -168,6 +170,7 @@ impl Fetch {
         requires sound { IsStore store.old }
         requires under_way { IsUnderWay self.old.walk.stage }
         requires pin { MayAsk store.old.index self.old.walk.session self.old.walk.stage }
+        ensures stage { IsStage self.old.walk.first self.old.walk.end self.old.walk.stage }
         ensures fetch { OnOk result (self.new ≡ fetch_after store.old self.old) }
         ensures store { OnOk result (store.new ≡ record store.old { index = index_walked store.old.index self.old.walk }) }
         ensures same { OnOk result (outcome store.new self.new ≡ outcome store.old self.old) }
@@ -216,6 +219,7 @@ impl Fetch {
         ensures walk { OnOk result (self.new.walk ≡ walk_after store.old.index self.old.walk) }
         ensures store { OnOk result (store.new ≡ record store.old { index = index_walked store.old.index self.old.walk }) }
         ensures ready { IfOk result (IsFetchReady store.new self.new) }
+        ensures batch { IsBatchHeld store.old.index.entries self.old.walk → OnOk result (IsBatchHeld store.new.index.entries self.new.walk) }
         ensures left { IfOk result (IsFetchProgress (steps_left store.old.index.entries self.old.walk) (steps_left store.new.index.entries self.new.walk)) }
         ensures fetch_after { IfErr result (λ fault. IsFetchAfter fault self.old self.new) }
         ensures store_after { IfErr result (λ fault. store.new ≡ store_after_fault store.old self.old.walk.session fault) }

@@ -126,6 +126,24 @@ fn fetched(
     finish(fetch, store)
 }
 
+/// Fetches what lies between the first of some places in a value, in order, and each of them.
+fn fetch_to_each(
+    rt: &impl Abort,
+    alloc: Global,
+    store: &mut ToastStore,
+    value: &[u8],
+    places: &[u32],
+) -> Result<(), FetchFault> {
+    let Some(start) = places.first().copied() else {
+        return Ok(());
+    };
+    for end in places {
+        let bytes = fetched(rt, alloc, store, pointer(VALUE, 8001), start, *end)?;
+        assert!(rt; Some(bytes.as_slice()) == value.get(start as usize..*end as usize));
+    }
+    Ok(())
+}
+
 #[test]
 fn a_span_between_any_edges_of_five_pieces_is_fetched(rt: HostRuntime) -> Result<(), Fail> {
     let alloc = rt.alloc();
@@ -135,14 +153,8 @@ fn a_span_between_any_edges_of_five_pieces_is_fetched(rt: HostRuntime) -> Result
     let edges: [u32; 16] = [
         0, 1, 1995, 1996, 1997, 3991, 3992, 3993, 5987, 5988, 5989, 7983, 7984, 7985, 8000, 8001,
     ];
-    for start in edges {
-        for end in edges {
-            if start > end {
-                continue;
-            }
-            let bytes = fetched(&rt, alloc, &mut store, pointer(VALUE, 8001), start, end)?;
-            assert!(rt; Some(bytes.as_slice()) == value.get(start as usize..end as usize));
-        }
+    for first in 0..edges.len() {
+        fetch_to_each(&rt, alloc, &mut store, &value, &edges[first..])?;
     }
     Ok(())
 }

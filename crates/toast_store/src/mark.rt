@@ -4,8 +4,8 @@ ghost use Rattle.std.specs.Prelude.{◌≡◌, ◌≤◌, ◌<◌, IfOk, OnErr, 
 ghost use Rattle.slot_page.specs.Pages.{item_in};
 ghost use Rattle.chunk_relation.specs.Relations.{with_ended};
 ghost use Rattle.toast_store.specs.Stores.{IsStore, Store};
-ghost use Rattle.toast_store.specs.Walks.{IsUnderWay, MayAsk, steps_left, walk_after};
-ghost use Rattle.toast_store.specs.Marks.{IsMarkAnswer, IsMarkProgress, IsMarkReady, IsMarking, new_mark, store_marked};
+ghost use Rattle.toast_store.specs.Walks.{IsBatchHeld, IsStage, IsUnderWay, MayAsk, steps_left, walk_after};
+ghost use Rattle.toast_store.specs.Marks.{EndsOwn, IsMarkAnswer, IsMarkProgress, IsMarkReady, IsMarking, new_mark, store_marked};
 
 use crate::store::ToastStore;
 use crate::walk::Walk;
@@ -53,6 +53,7 @@ impl Mark {
     pub fn new(p: Pointer, xid: u64, session: u16) -> Self
         ensures mark { result ≡ new_mark p xid session }
         ensures marking { (store : Store) → IsMarking store result }
+        ensures batch { (store : Store) → IsBatchHeld store.index.entries result.walk }
     {
         Mark {
             xid,
@@ -66,6 +67,7 @@ impl Mark {
         requires sound { IsStore store.old }
         requires under_way { IsUnderWay self.old.walk.stage }
         requires pin { MayAsk store.old.index self.old.walk.session self.old.walk.stage }
+        ensures stage { IsStage self.old.walk.first self.old.walk.end self.old.walk.stage }
         ensures mark { OnOk result (self.new ≡ record self.old { walk = walk_after store.old.index self.old.walk }) }
         ensures store { OnOk result (store.new ≡ store_marked store.old self.old) }
         ensures marking { IsMarking store.old self.old → OnOk result (IsMarking store.new self.new) }
@@ -95,6 +97,8 @@ impl Mark {
         ensures store { OnOk result (store.new ≡ store_marked store.old self.old) }
         ensures marked { IsMarking store.old self.old → IfOk result (IsMarkAnswer store.new self.new) }
         ensures ready { IfOk result (IsMarkReady store.new self.new) }
+        ensures batch { IsBatchHeld store.old.index.entries self.old.walk → OnOk result (IsBatchHeld store.new.index.entries self.new.walk) }
+        ensures own { IsBatchHeld store.old.index.entries self.old.walk → OnOk result (EndsOwn store.old self.old) }
         ensures left { IfOk result (IsMarkProgress (steps_left store.old.index.entries self.old.walk) (steps_left store.new.index.entries self.new.walk)) }
         ensures mark_stays { OnErr result (self.new ≡ self.old) }
         ensures store_stays { OnErr result (store.new ≡ store.old) }

@@ -50,7 +50,7 @@ pub struct Progress {
 /// A script with a store that runs it, and the journal.
 #[derive(Debug, Drop)]
 pub struct Hub {
-    script: Script,
+    pub(crate) script: Script,
     core: Core,
     journal: Vec<JournalEntry>,
     kept: Vec<KeptLine>,

@@ -15,9 +15,9 @@ use Rattle.chunk_index.specs.declared.entry.Entry.{Entry}
 use Rattle.chunk_index.specs.Entries.{entry_cmp, is_after, is_wanted, wanted_of}
 use Rattle.chunk_index.specs.Leaves.{Leaf, is_from, is_below, next_bound, in_leaf, leaf_from, leaf_of}
 use Rattle.chunk_index.specs.Indexes.{Index, batch_of, after_batch}
-use Rattle.list_facts.proofs.Members.{none_in_nil, filter_holds, held_by_filter}
+use Rattle.list_facts.proofs.Members.{none_in_nil, filter_holds, held_by_filter, filter-filter}
 use Rattle.chunk_index.proofs.Ordered.{entry_total}
-use Rattle.chunk_index.proofs.Runs.{skip_run, front_run, while_run, filter-filter}
+use Rattle.chunk_index.proofs.Runs.{skip_run, front_run, while_run}
 use Rattle.chunk_index.proofs.Searches.{sorted_pairs}
 
 -- what is true of an entry that is wanted
@@ -110,7 +110,7 @@ pub asked_after : (value_id from to : ℕ) (after : Option Entry) (entries : Lis
     → wanted_of value_id from to (Some (get_or (wanted_of value_id from to after entries) k d)) entries ≡ drop (k + 1) (wanted_of value_id from to after entries)
 asked_after value_id from to after entries k d sorted within =
     filter_agree (is_wanted value_id from to (Some last)) (λ e. is_wanted value_id from to after e && is_gt (entry_cmp e last)) same entries
-    ∙ sym (filter-filter (is_wanted value_id from to after) (λ e. is_gt (entry_cmp e last)) entries)
+    ∙ sym (filter-filter (λ e. is_gt (entry_cmp e last)) (is_wanted value_id from to after) (λ e. is_wanted value_id from to after e && is_gt (entry_cmp e last)) entries (λ e. refl))
     ∙ beyond_run (wanted_of value_id from to after entries) k d (wanted_sorted value_id from to after entries sorted) within
   where
     last : Entry

@@ -65,12 +65,3 @@ nth_run {X} w (x ∷ xs) closed n = by_test (w x) refl n (λ m. nth_run w xs (λ
 pub while_run : {X : Type 0} (w : X → Bool) (xs : List X) → ((i j : ℕ) (d : X) → i ≤ j → j < length xs → w (get_or xs j d) ≡ true → w (get_or xs i d) ≡ true) → filter w xs ≡ take (prefix_len w xs) xs
 while_run w xs closed = front_run w xs (prefix_len w xs) (λ k d l within. prefix_len_passes w xs k d l)
     (λ k d l within. false_from_ne_true (w (get_or xs k d)) (λ passes. both_ways (w (get_or xs (prefix_len w xs) d)) (prefix_len_stops w xs d (omega (arith, l, within))) (closed (prefix_len w xs) k d l within passes)))
-
--- two filters, one after the other
-pub filter-filter : {X : Type 0} (p q : X → Bool) (xs : List X) → filter q (filter p xs) ≡ filter (λ x. p x && q x) xs
-filter-filter p q [] = refl
-filter-filter {X} p q (x ∷ xs) = by_test (p x) (filter-filter p q xs)
-  where
-    by_test : (b : Bool) → filter q (filter p xs) ≡ filter (λ y. p y && q y) xs → filter q (cond b (x ∷ filter p xs) (filter p xs)) ≡ cond (b && q x) (x ∷ filter (λ y. p y && q y) xs) (filter (λ y. p y && q y) xs)
-    by_test true rest = ap (λ ys. cond (q x) (x ∷ ys) ys) rest
-    by_test false rest = rest

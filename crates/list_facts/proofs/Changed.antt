@@ -1,5 +1,5 @@
 -- What stands at each place of a list after one element is written or one is added at the end.
-use Rattle.std.proofs.Common.{◌≡◌, ◌≢◌, ◌<◌, ◌+◌, ℕ, List, [], ◌∷◌, ◌++◌, Option, Some, None, length, slice_get, slice_set, ◌⊎◌, inl, inr, refl, ap, arith, zero, suc}
+use Rattle.std.proofs.Common.{◌≡◌, ◌≢◌, ◌<◌, ℕ, List, [], ◌∷◌, ◌++◌, Some, length, slice_get, slice_set, ◌⊎◌, inl, inr, refl, ap, arith, zero, suc}
 
 -- a written element is there
 pub get_set_same : {T : Type 0} (xs : List T) (i : ℕ) (y : T) → i < length xs → slice_get (slice_set xs i y) i ≡ Some y

@@ -1,5 +1,5 @@
 -- What a list holds, first element by first element; what a filter leaves of it and what a search finds in it.
-use Rattle.std.proofs.Common.{◌≡◌, ◌⊎◌, inl, inr, Bool, true, false, cond, Some, None, List, [], ◌∷◌, ◌++◌, filter, find, Contains, refl, sym, ap, ◌∙◌, arith, zero, suc}
+use Rattle.std.proofs.Common.{◌≡◌, ◌⊎◌, inl, inr, Bool, true, false, ◌&&◌, cond, Some, None, List, [], ◌∷◌, ◌++◌, filter, find, Contains, refl, sym, ap, ◌∙◌, arith, zero, suc}
 use Rattle.std.proofs.lemmas.Option.{none-some}
 
 -- an empty list holds nothing
@@ -82,3 +82,16 @@ find-append_none {X} p (z ∷ zs) ys none = by_test (p z) none (λ rest. find-ap
     by_test : (b : Bool) → cond b (Some z) (find p zs) ≡ None → (find p zs ≡ None → find p (zs ++ ys) ≡ find p ys) → cond b (Some z) (find p (zs ++ ys)) ≡ find p ys
     by_test true none' rest = absurd (cc)
     by_test false none' rest = rest none'
+
+-- two filters one after the other are one
+pub filter-filter : {X : Type 0} (p q r : X → Bool) (xs : List X) → ((x : X) → (q x && p x) ≡ r x) → filter p (filter q xs) ≡ filter r xs
+filter-filter p q r [] same = refl
+filter-filter p q r (x ∷ xs) same = by_tests (p x) (q x) (r x) refl refl refl (same x) (filter-filter p q r xs same)
+  where
+    by_tests : (a b c : Bool) → p x ≡ a → q x ≡ b → r x ≡ c → (q x && p x) ≡ r x → filter p (filter q xs) ≡ filter r xs → filter p (filter q (x ∷ xs)) ≡ filter r (x ∷ xs)
+    by_tests true true true ea eb ec s rest = rw (eb, ec, ea) (ap (λ ys. x ∷ ys) rest)
+    by_tests true true false ea eb ec s rest = absurd (cc)
+    by_tests false true true ea eb ec s rest = absurd (cc)
+    by_tests false true false ea eb ec s rest = rw (eb, ec, ea) rest
+    by_tests a false true ea eb ec s rest = absurd (cc)
+    by_tests a false false ea eb ec s rest = rw (eb, ec) rest

@@ -1,5 +1,5 @@
 -- A list that a test parts: what passes stands before what fails.
-use Rattle.std.proofs.Common.{◌≡◌, ℕ, ◌<◌, ◌≤◌, Bool, true, false, not, ◌&&◌, List, [], ◌∷◌, length, get_or, take, drop, filter, refl, ap, inl, inr, arith, zero, suc}
+use Rattle.std.proofs.Common.{◌≡◌, ℕ, ◌<◌, ◌≤◌, Bool, true, false, not, List, [], ◌∷◌, length, get_or, take, drop, filter, refl, ap, inl, inr, arith, zero, suc}
 use Rattle.std.specs.List.Sorted.{IsStrictlySortedBy, IsPartitionedBy, IsPartitionPoint}
 use Rattle.std.specs.declared.cmp.Ordering.{Ordering}
 use Rattle.std.specs.declared.cmp.Ordering.TheVariants.{Less}
@@ -40,16 +40,3 @@ parts_of p (x ∷ xs) (suc i) before after within =
 
 pub parts : {X : Type 0} (p : X → Bool) (xs : List X) (i : ℕ) → i ≤ length xs → IsPartitionPoint (λ y. p y ≡ true) (λ y. p y ≡ false) xs i → ArePart p xs i
 parts p xs i within point = parts_of p xs i (λ k d low. point.0 k d (omega arith) low) (λ k d low high. point.1 k d low high) within
-
--- two tests one after the other are one
-pub filter-filter : {X : Type 0} (p q r : X → Bool) (xs : List X) → ((x : X) → (q x && p x) ≡ r x) → filter p (filter q xs) ≡ filter r xs
-filter-filter p q r [] same = refl
-filter-filter p q r (x ∷ xs) same = by_tests (p x) (q x) (r x) refl refl refl (same x) (filter-filter p q r xs same)
-  where
-    by_tests : (a b c : Bool) → p x ≡ a → q x ≡ b → r x ≡ c → (q x && p x) ≡ r x → filter p (filter q xs) ≡ filter r xs → filter p (filter q (x ∷ xs)) ≡ filter r (x ∷ xs)
-    by_tests true true true ea eb ec s rest = rw (eb, ec, ea) (ap (λ ys. x ∷ ys) rest)
-    by_tests true true false ea eb ec s rest = absurd (cc)
-    by_tests false true true ea eb ec s rest = absurd (cc)
-    by_tests false true false ea eb ec s rest = rw (eb, ec, ea) rest
-    by_tests a false true ea eb ec s rest = absurd (cc)
-    by_tests a false false ea eb ec s rest = rw (eb, ec) rest

@@ -2,9 +2,9 @@
 use Rattle.std.proofs.Common.{not, filter, ap, ◌∙◌}
 use Rattle.std.specs.Ordering.{int_cmp, is_le, is_lt}
 use Rattle.std.proofs.lemmas.List.Kept.{IsStrictlySortedBy-filter}
+use Rattle.list_facts.proofs.Members.{filter-filter}
 use Rattle.row_versions.specs.Keys.{entry_cmp, has_key}
 use Rattle.row_versions.proofs.Entries.{same_key}
-use Rattle.row_versions.proofs.Parts.{filter-filter}
 use Rattle.row_versions.proofs.keys.entries_of.Goals as goal
 
 pub entries_from-requires : goal.entries_from-requires

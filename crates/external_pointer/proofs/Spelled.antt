@@ -53,15 +53,6 @@ one_pointer p q fits others same =
     (sym (word_at-value_id p fits) ∙ ap (word_at 10) same ∙ word_at-value_id q others)
     (sym (word_at-toast_rel p fits) ∙ ap (word_at 14) same ∙ word_at-toast_rel q others)
 
--- the same where other bytes follow
-pub one_pointer_front : (p q : Pointer) (x y : List ℕ) → IsInRange p → IsInRange q → pointer_bytes p ++ x ≡ pointer_bytes q ++ y → (p ≡ q) × (x ≡ y)
-one_pointer_front p q x y fits others same =
-    let p_len = length-pointer_bytes p in
-    let q_len = length-pointer_bytes q in
-    let fronts : pointer_bytes p ≡ pointer_bytes q = sym (take_at (pointer_bytes p) x 18 p_len) ∙ ap (take 18) same ∙ take_at (pointer_bytes q) y 18 q_len in
-    let rests : x ≡ y = sym (drop_at (pointer_bytes p) x 18 p_len) ∙ ap (drop 18) same ∙ drop_at (pointer_bytes q) y 18 q_len in
-    (one_pointer p q fits others fronts, rests)
-
 joined : (a b c d w x y z : List ℕ) → a ≡ w → b ≡ x → c ≡ y → d ≡ z → a ++ (b ++ (c ++ d)) ≡ w ++ (x ++ (y ++ z))
 joined a b c d w x y z p q r s = cc
 

@@ -59,9 +59,3 @@ legal_next script journal i run next e h at is may so_far =
     ap (λ r. may_follow_on script r (drop (i + 1) journal)) is
     ∙ sym (and_true (may_follow script run e) (may_follow_on script (after_entry script run e) (drop (i + 1) journal)) may)
     ∙ sym (ap (may_follow_on script run) (drop_step journal i e h at)) ∙ so_far
-
--- an entry that may not follow
-pub not_legal : (script : Script) (journal : List JournalEntry) (i : ℕ) (run : Run) (e : JournalEntry) → i < length journal → e ≡ get_or journal i e → may_follow script run e ≡ false → may_follow_on script run (drop i journal) ≡ is_legal script journal → false ≡ is_legal script journal
-not_legal script journal i run e h at may so_far =
-    and_false (may_follow script run e) (may_follow_on script (after_entry script run e) (drop (i + 1) journal)) may
-    ∙ sym (ap (may_follow_on script run) (drop_step journal i e h at)) ∙ so_far

@@ -136,24 +136,6 @@ emptied_more old now next s h left w = record {
   idle = w.ended;
 }
 
-pub emptied_all : (old now : HubState) (s : ℕ) → EmptiedTo old now s → (place_of (places_in now) s).begun ≡ length (commands_of now.script s) → EmptiesSession old s now
-emptied_all old now s h over = record {
-  turns = h.turns;
-  ran = h.ran;
-  empties = record {
-    own = h.own;
-    made = h.made;
-    over = record {
-      begun = ap (λ (ps : List Place). (place_of ps s).begun) (sym h.ran.places) ∙ over ∙ ap (λ (script : Script). length (commands_of script s)) h.ran.script;
-      ended = ap (λ (ps : List Place). (place_of ps s).under_way) (sym h.ran.places) ∙ h.idle;
-    };
-  };
-}
-
--- a command fewer is left
-pub fewer_commands : (now next : HubState) (s : ℕ) → (place_of (places_in now) s).under_way ≡ false → (place_of (places_in now) s).begun < length (commands_of now.script s) → RunsWhole now s next → length (commands_of next.script s) - (place_of (places_in next) s).begun < length (commands_of now.script s) - (place_of (places_in now) s).begun
-fewer_commands now next s idle left w = omega (arith, left, (w.begun idle left).0, ap (λ (script : Script). length (commands_of script s)) w.ran.script)
-
 -- the first sessions have no command left
 pub record EmptiedAll (old now : HubState) (i : ℕ) : Type 0 where
   pub turns : List TurnMade

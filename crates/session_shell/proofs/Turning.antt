@@ -121,8 +121,5 @@ times_more a b c s n turn h k = record {
   own = all_of-append s h.turns _ h.own (refl, tt);
 }
 
-pub once_made : (a b : HubState) (s : ℕ) (turn : Turn) → MakesTurn a s b turn → RunsItem a b (items.Once s)
-once_made a b s turn h = record { turns = _; ran = h.ran; own = (refl, (refl, tt)) }
-
 pub times_made : (a b : HubState) (s count : ℕ) → RunsTimes a b s count → RunsItem a b (items.Times s count)
 times_made a b s count h = record { turns = h.turns; ran = h.ran; own = (h.count_is, h.own) }

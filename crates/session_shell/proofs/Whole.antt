@@ -20,11 +20,6 @@ turns_left turns.More n = suc n
 turns_left turns.Nothing n = 0
 turns_left (turns.Ended entry) n = 0
 
-pub fewer_left : (old new : Turn) (m n : ℕ) → old ≡ turns.More → (new ≡ turns.More → n < m) → turns_left new n < turns_left old m
-fewer_left old turns.More m n is h = subst (λ (t : Turn). suc n < turns_left t m) (sym is) (omega (arith, h refl))
-fewer_left old turns.Nothing m n is h = subst (λ (t : Turn). 0 < turns_left t m) (sym is) (omega arith)
-fewer_left old (turns.Ended entry) m n is h = subst (λ (t : Turn). 0 < turns_left t m) (sym is) (omega arith)
-
 -- a place in a list has an element
 record There {X : Type 0} (xs : List X) (i : ℕ) : Type 0 where
   x : X
@@ -116,20 +111,3 @@ whole_more old now next s turn turn' h more made one past =
       going = f.going;
       begun = λ idle left. let b = h.begun idle left in (stays.0 ∙ b.0, none_rests-append (h.front ++ t ∷ []) (turn_made s made.entry turn' ∷ []) b.1 (stays.1, tt));
     }
-
-not_more : (turn : Turn) → (turn ≡ turns.More → ⊥) → end_of turn ≢ More
-not_more turns.Nothing other e = cc
-not_more turns.More other e = other refl
-not_more (turns.Ended entry) other e = cc
-
-pub whole_done : (old now : HubState) (s : ℕ) (turn : Turn) → SoFar old s now turn → (turn ≡ turns.More → ⊥) → RunsWhole old s now
-whole_done old now s turn h other = record {
-  turns = h.front ++ turn_made s h.entry turn ∷ [];
-  ran = h.ran;
-  whole = record { front = h.front; last = turn_made s h.entry turn; is = refl; goes_on = h.goes_on; session = refl; stops = not_more turn other };
-  ended = h.ended (not_more turn other);
-  begun = h.begun;
-}
-
-pub whole_made : (a b : HubState) (s : ℕ) → RunsWhole a s b → RunsItem a b (items.Whole s)
-whole_made a b s h = record { turns = h.turns; ran = h.ran; own = h.whole }

@@ -46,9 +46,6 @@ holder_push (c ∷ claims) claim q = by (same_place q c.place) (holder_push clai
     by true rest = refl
     by false rest = rest
 
-holds_at : Option ℕ → ℕ → Bool
-holds_at o t = option_map_or (λ holder. holder == t) o false
-
 -- whether a session holds a place, once a place that nobody held is claimed
 pub holder_claimed : (claims : List Claim) (claim : Claim) (q : Place) (t : ℕ) → holder_of claims claim.place ≡ None
     → is_holder (claims ++ claim ∷ []) q t ≡ (is_holder claims q t || (same_place q claim.place && (claim.session == t)))

@@ -270,11 +270,6 @@ stands_new schemas n = record {
     idle : {reply : Reply} → None ≡ Some reply → ⊥
     idle e = absurd (cc)
 
--- copies of the first elements, with one more
-pub copied_more : {T : Type 0} (xs copies : List T) (i : ℕ) (x copy : T) → i < length xs → x ≡ slice_index_or xs i x → copies ≡ take i xs → copy ≡ x → copies ++ copy ∷ [] ≡ take (i + 1) xs
-copied_more {T} xs copies i x copy low at so_far is =
-    ap (λ (ys : List T). ys ++ copy ∷ []) so_far ∙ ap (λ (y : T). take i xs ++ y ∷ []) (is ∙ at_any xs i x x low at) ∙ sym (take_more xs i x low)
-
 -- a core of these parts is a new one
 pub new_is : (schemas its : List (List Storage)) (xacts : Xacts) (snaps : Snaps) (claims : List Claim) (versions : List Version) (pieces : List Piece) (seats : List Seat) (n : ℕ) → its ≡ schemas → xacts ≡ [] → snaps ≡ [] → claims ≡ [] → versions ≡ [] → pieces ≡ [] → seats ≡ replicate n nobody
     → ◌≡◌ {A = CoreState} (record { schemas = schemas; xacts = []; snaps = []; claims = []; versions = []; pieces = []; seats = replicate n nobody }) (record { schemas = its; xacts = xacts; snaps = snaps; claims = claims; versions = versions; pieces = pieces; seats = seats })

@@ -437,20 +437,6 @@ falls c s there sound = record {
     fallen (sessions.Open t) states.Failed changes like = refl
     fallen (sessions.Open t) (states.Open level xid) changes like = refl
 
--- a failing end is sound
-pub sound_failing : (c : CoreState) (s : ℕ) → IsSession c.seats s → IsSound c → IsSound (after_failing c s)
-sound_failing c s there sound = sound_giving_up c s (failed_state (seat_of c s).state) there (reads (seat_of c s).state) (none (seat_of c s).state) sound
-  where
-    none : (state : State) → xid_of (failed_state state) ≡ None
-    none states.Outside = refl
-    none states.Failed = refl
-    none (states.Open level xid) = refl
-
-    reads : (state : State) → reads_committed (failed_state state) ≡ true
-    reads states.Outside = refl
-    reads states.Failed = refl
-    reads (states.Open level xid) = refl
-
 -- a command that is submitted changes nothing of what the core stands for
 pub stands_submit : (c : CoreState) (s : ℕ) (command : Command) → IsSession c.seats s → coming (seat_of c s).job ≡ [] → StandsOn c (after_submit c s command)
 stands_submit c s command there none = record { stands = λ m told stands. stands_on c c.snaps s (jobs.Submitted command) m told there stands none (λ said pends. absurd (cc)) }

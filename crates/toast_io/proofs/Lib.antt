@@ -1,5 +1,3 @@
-pub mod Counts
-pub mod Parts
 pub mod Taken
 pub mod Told
 mod Answered

@@ -21,15 +21,6 @@ consumed_takes (Some x) (Some y) bytes count size h = record {
   rest = ap Some (sym (ap (drop count) h ∙ (ap (λ n. drop n (bytes ++ y)) (sym size) ∙ drop-front bytes y)));
 }
 
--- a source that is at its end gave all that it had
-pub consumed_to_end : (old new : Option (List ℕ)) (bytes : List ℕ) → Consumes old new bytes → IsAtEnd new → ReadsToEnd old new bytes
-consumed_to_end None new bytes h end = record { whole = tt; at_end = tt }
-consumed_to_end (Some x) None bytes h end = absurd h
-consumed_to_end (Some x) (Some y) bytes h end = record {
-  whole = sym (h ∙ (ap (λ l. bytes ++ l) end ∙ append-nil bytes));
-  at_end = ap Some end;
-}
-
 -- a write of the rest takes some of it
 pub written_within : (bytes : List ℕ) (at count : ℕ) → at ≤ length bytes → count ≤ length (take (length bytes - at) (drop at bytes)) → at + count ≤ length bytes
 written_within bytes at count before fits = omega (arith, length-take (length bytes - at) (drop at bytes), length-drop at bytes)
@@ -55,9 +46,3 @@ takes_within old mid new bytes buffer count room limit first second fits size be
   within = omega (arith, length-append bytes (take count buffer), length-take-le count buffer fits);
   takes = consumed_takes old new (bytes ++ take count buffer) _ refl (Consumes-trans old mid new bytes (take count buffer) first second);
 }
-
--- a read into the front of a buffer gives the front of the buffer
-pub reads_front : (old mid new : Option (List ℕ)) (bytes front rest all : List ℕ) (count : ℕ) → Consumes old mid bytes → Consumes mid new (take count front)
-    → count ≤ length front → all ≡ bytes ++ take count (front ++ rest) → Consumes old new all
-reads_front old mid new bytes front rest all count first second fits is =
-    rw (is, take-append-le count front rest fits) (Consumes-trans old mid new bytes (take count front) first second)

@@ -16,23 +16,3 @@ told_taken old new count left told takes =
     let There : Option (List ℕ) → Type 0 = λ o. IfSome o (λ l. count ≤ length l) in
     let Rest : Option (List ℕ) → Type 0 = λ o. IfSome o (λ l. new ≡ Some (drop count l)) in
     (subst There told takes.there, subst Rest told takes.rest)
-
--- told bytes grow by these
-pub told_appended : (old new : Option (List ℕ)) (bytes written : List ℕ) → old ≡ Some written → Appends old new bytes → new ≡ Some (written ++ bytes)
-told_appended old new bytes written told appends =
-    let P : Option (List ℕ) → Type 0 = λ o. Appends o new bytes in
-    appended_from new bytes written (subst P told appends)
-  where
-    appended_from : (new : Option (List ℕ)) (bytes written : List ℕ) → Appends (Some written) new bytes → new ≡ Some (written ++ bytes)
-    appended_from None bytes written appends = absurd appends
-    appended_from (Some grown) bytes written appends = ap Some appends
-
--- told bytes stay
-pub told_kept : (old new : Option (List ℕ)) (written : List ℕ) → old ≡ Some written → Keeps old new → new ≡ Some written
-told_kept old new written told keeps =
-    let P : Option (List ℕ) → Type 0 = λ o. Keeps o new in
-    kept_from new written (subst P told keeps)
-  where
-    kept_from : (new : Option (List ℕ)) (written : List ℕ) → Keeps (Some written) new → new ≡ Some written
-    kept_from None written keeps = absurd keeps
-    kept_from (Some same) written keeps = ap Some keeps

@@ -113,9 +113,6 @@ read_columns ws rest few = let all : (length ws + 1) % 256 + (length ws + 1) / 2
 read_null : (ws : List Width) (rest : List ℕ) → null_in (header ws ++ rest) ≡ list_any is_missing ws
 read_null ws rest = flag_is (list_any is_missing ws) (list_any is_there ws) _
 
-read_start : (ws : List Width) (rest : List ℕ) → start_in (header ws ++ rest) ≡ data_start ws
-read_start ws rest = refl
-
 length-bitmap : (ws : List Width) → length ws ≤ 8 → 23 + length (bitmap ws) ≤ data_start ws
 length-bitmap ws few = grind (arith, nat_tests, length-take)
 

@@ -40,11 +40,6 @@ or_false : (b : Bool) → (b || false) ≡ b
 or_false true = refl
 or_false false = refl
 
-pub null_more : (cells : List Cell) (out : List ℕ) (n : ℕ) (null total : Bool) (c : Cell) → n < length cells → c ≡ get_or cells n c → (null || list_any is_missing (left_of out cells n)) ≡ total
-    → ((null || is_missing (width_besides out (n + 1) (cell_width c))) || list_any is_missing (left_of out cells (n + 1))) ≡ total
-null_more cells out n null total c h c-is rest =
-    sym (or_assoc null _ _) ∙ ap (λ (x : List Width). null || list_any is_missing x) (sym (left_more out cells n c h c-is)) ∙ rest
-
 pub size_is : (schema : List Storage) (cells : List Cell) (out : List ℕ) (n start end : ℕ) (null : Bool) → length cells ≡ length schema → n ≡ min (length schema) (length cells)
     → data_end_from end (drop n schema) (left_of out cells n) ≡ data_end_from 8 schema (moved out (cell_widths cells)) → (null || list_any is_missing (left_of out cells n)) ≡ list_any is_missing (moved out (cell_widths cells))
     → start ≡ header_size (length cells + 1) null → start + end ≡ size_with schema (cell_widths cells) out
@@ -74,16 +69,6 @@ pub best_step : (schema : List Storage) (cells : List Cell) (out : List ℕ) (n 
 best_step schema cells out n m column best cand new total s c m-is column-is new-is cand-is h k s-is c-is rest =
     let found : new ≡ longer best (candidate_besides out (n + 1) s (cell_width c)) = new-is ∙ ap (longer best) (cand-is ∙ ap (λ (x : ℕ). candidate_besides out (x + 1) s (cell_width c)) column-is) in
     rw (m-is, found) (best_more schema cells out n best total s c h k s-is c-is rest)
-
-longer_none : (best : Option (ℕ × ℕ)) → longer best None ≡ best
-longer_none None = refl
-longer_none (Some c) = refl
-
-pub best_all : (schema : List Storage) (cells : List Cell) (out : List ℕ) (n : ℕ) (best total : Option (ℕ × ℕ)) → length cells ≡ length schema → n ≡ min (length schema) (length cells)
-    → longer best (first_of (eligible_from (n + 1) (drop n schema) (left_of out cells n))) ≡ total → best ≡ total
-best_all schema cells out n best total len all rest =
-    let no_more : drop n schema ≡ [] = drop_all n schema (omega arith) in
-    sym (longer_none best) ∙ ap (λ (x : List Storage). longer best (first_of (eligible_from (n + 1) x (left_of out cells n)))) (sym no_more) ∙ rest
 
 -- ---- one column after the other
 
@@ -136,16 +121,6 @@ chosen_more_by schema ws target c len out (d ∷ ds) order rest few large first 
 pub chosen_more : (schema : List Storage) (ws : List Width) (target c len : ℕ) (out : List ℕ) → Chosen schema ws target out → target < size_with schema ws out → first_of (eligible_from 1 schema (moved out ws)) ≡ Some (c, len)
     → Chosen schema ws target (out ++ c ∷ []) × (length out < length schema)
 chosen_more schema ws target c len out h large first = chosen_more_by schema ws target c len out h.left h.order h.rest h.few large (sym (ap first_of h.order) ∙ first)
-
-nothing_left : (left : Columns) → first_of left ≡ None → left ≡ []
-nothing_left [] e = refl
-nothing_left (c ∷ cs) e = absurd (cc)
-
--- no column is left
-pub chosen_all : (schema : List Storage) (ws : List Width) (target : ℕ) (out : List ℕ) → Chosen schema ws target out → first_of (eligible_from 1 schema (moved out ws)) ≡ None → out ≡ pushed schema ws target
-chosen_all schema ws target out h none =
-    let empty : h.left ≡ [] = nothing_left h.left (sym (ap first_of h.order) ∙ none) in
-    sym (h.rest ∙ ap (λ (x : Columns). out ++ shortest (λ taken. nat_le (size_with schema ws taken) target) out (map (λ c. c.0) x)) empty ∙ append-nil out)
 
 fits_now : (test : List ℕ → Bool) (out left : List ℕ) → test out ≡ true → shortest test out left ≡ []
 fits_now test out [] e = refl

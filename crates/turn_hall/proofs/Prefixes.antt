@@ -62,11 +62,3 @@ shorter_length xs ys = by (nat_le (length ys) (length xs)) refl
     by : (b : Bool) → nat_le (length ys) (length xs) ≡ b → length (if b then ys else xs) ≤ length (if b then xs else ys)
     by true e = grind (arith, nat_tests)
     by false e = grind (arith, nat_tests)
-
--- where the shorter history begins the longer one, so do both
-pub longer_begins : (xs ys : List Entry) → IsPrefix (shorter xs ys) (longer xs ys) → IsPrefix xs (longer xs ys) × IsPrefix ys (longer xs ys)
-longer_begins xs ys = by (nat_le (length ys) (length xs))
-  where
-    by : (b : Bool) → IsPrefix (if b then ys else xs) (if b then xs else ys) → IsPrefix xs (if b then xs else ys) × IsPrefix ys (if b then xs else ys)
-    by true a = (prefix_refl xs, a)
-    by false a = (a, prefix_refl ys)

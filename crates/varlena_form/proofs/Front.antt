@@ -12,10 +12,6 @@ pub length-plain_form : (payload : List ℕ) → length (plain_form payload) ≡
 unfolding plain_form
 length-plain_form payload = omega arith
 
-pub length-compressed_form : (payload : List ℕ) → length (compressed_form payload) ≡ length payload + 4
-unfolding compressed_form
-length-compressed_form payload = omega arith
-
 -- the bytes that begin with a datum are its spelling and the rest
 pub begins_split : (bytes : List ℕ) (d : Datum) (n : ℕ) → BeginsWith bytes d n → bytes ≡ spelling d ++ drop n bytes
 begins_split bytes d n h = sym (take-append-drop n bytes) ∙ ap (λ (front : List ℕ). front ++ drop n bytes) h.front

@@ -136,13 +136,15 @@ fn put_message(m: &Message, out: &mut Bytes) -> Result<(), AllocError>
 /// Appends the one spelling of a message, which is within its ranges.
 ///
 /// Where memory is missing `out` stays as it was.
-pub fn write_message(alloc: Global, m: &Message, out: &mut Bytes) -> Result<(), AllocError>
+pub fn write_message(_alloc: Global, m: &Message, out: &mut Bytes) -> Result<(), AllocError>
     requires { IsInRange m.now }
     ensures ok { OnOk result (out.new ≡ out.old ++ spelling m.now) }
     ensures err { OnErr result (out.new ≡ out.old) }
 {
-    let mut bytes = Bytes::new(alloc);
-    put_message(m, &mut bytes)?;
-    out.extend_from_slice(bytes.as_slice())?;
-    Ok(())
+    let before = out.len();
+    let written = put_message(m, out);
+    if written.is_err() {
+        out.truncate(before);
+    }
+    written
 }

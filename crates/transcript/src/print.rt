@@ -40,10 +40,12 @@ pub fn print_reply(
     ensures ok { OnOk result (out.new ≡ out.old ++ reply_line session number reply.now) }
     ensures err { OnErr result (out.new ≡ out.old) }
 {
-    let mut line = ListOf::new(alloc);
-    put_reply_line(alloc, session, number, reply, &mut line)?;
-    out.extend_from_slice(line.as_slice())?;
-    Ok(())
+    let before = out.len();
+    let printed = put_reply_line(alloc, session, number, reply, out);
+    if printed.is_err() {
+        out.truncate(before);
+    }
+    printed
 }
 
 fn put_message_line(alloc: Global, m: &Message, out: &mut Bytes) -> Result<(), AllocError>
@@ -66,10 +68,12 @@ pub fn print_message(alloc: Global, m: &Message, out: &mut Bytes) -> Result<(), 
     ensures ok { OnOk result (out.new ≡ out.old ++ message_line m.now) }
     ensures err { OnErr result (out.new ≡ out.old) }
 {
-    let mut line = ListOf::new(alloc);
-    put_message_line(alloc, m, &mut line)?;
-    out.extend_from_slice(line.as_slice())?;
-    Ok(())
+    let before = out.len();
+    let printed = put_message_line(alloc, m, out);
+    if printed.is_err() {
+        out.truncate(before);
+    }
+    printed
 }
 
 fn put_row_line(
@@ -101,8 +105,10 @@ pub fn print_row(
     ensures ok { OnOk result (out.new ≡ out.old ++ row_line table key row.now) }
     ensures err { OnErr result (out.new ≡ out.old) }
 {
-    let mut line = ListOf::new(alloc);
-    put_row_line(alloc, table, &key, row, &mut line)?;
-    out.extend_from_slice(line.as_slice())?;
-    Ok(())
+    let before = out.len();
+    let printed = put_row_line(alloc, table, &key, row, out);
+    if printed.is_err() {
+        out.truncate(before);
+    }
+    printed
 }

@@ -1,5 +1,5 @@
 -- A decoder as contracts see it, and the log for which it stands.
-use Rattle.std.specs.Prelude.{◌≡◌, ℕ, ◌+◌, ◌<◌, ◌≤◌, ◌^◌, Bool, ◌&&◌, ◌==◌, nat_eq, if◌then◌else◌, List, [], ◌∷◌, ◌++◌, length, Option, Some, None, Result, Ok, Err}
+use Rattle.std.specs.Prelude.{◌≡◌, ℕ, ◌+◌, ◌<◌, ◌≤◌, ◌^◌, Bool, ◌&&◌, ◌==◌, nat_eq, List, [], ◌∷◌, ◌++◌, length, Option, Some, None, Result, Ok, Err}
 use Rattle.std.specs.List.{All}
 use Rattle.std.specs.Map.{lookup}
 use Rattle.change_log.specs.declared.entry.LogEntry.{LogEntry}
@@ -11,7 +11,7 @@ use Rattle.stream_wire.specs.declared.message.Message.{Message}
 use Rattle.decode_stream.specs.declared.fault.DecodeFault.{DecodeFault}
 use Rattle.decode_stream.specs.declared.fault.DecodeFault.TheVariants.{Memory}
 use Rattle.decode_stream.specs.declared.gathered.ValueName.{ValueName}
-use Rattle.decode_stream.specs.Decoding.{TransactionState, GatheredValue, Found, xid_of, unless_none, gathered, open_entries, changes_of, first_fault, commits, commit_at, numbered, decode}
+use Rattle.decode_stream.specs.Decoding.{TransactionState, GatheredValue, Found, xid_of, gathered, open_entries, changes_of, first_fault, commits, commit_at, decode}
 
 -- the values that are gathered, by their names
 abbrev pub Values : Type 0

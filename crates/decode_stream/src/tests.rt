@@ -117,14 +117,23 @@ fn is_small(e: &LogEntry) -> bool
     }
 }
 
+/// An entry that is within its ranges, and short.
+fn small_of(rt: &impl Abort, alloc: Global, line: &Line) -> Result<LogEntry, AllocError>
+    ensures ranged { IfOk result (λ e. Fits (λ table value_id. None) e) }
+    ensures short { IfOk result (λ e. length (chunk_bytes e) ≤ 1000) }
+{
+    let e = entry_of(alloc, line)?;
+    assert!(rt; is_small(&e));
+    Ok(e)
+}
+
 /// The log of a few short entries.
 fn logged(rt: &impl Abort, alloc: Global, lines: &[Line]) -> Result<Log, AllocError>
     ensures { IfOk result (λ log. IsDecodable log.entries) }
 {
     let mut log = Log::new(alloc);
     for line in lines {
-        let e = entry_of(alloc, line)?;
-        assert!(rt; is_small(&e));
+        let e = small_of(rt, alloc, line)?;
         assert!(rt; log.len() < 1000);
         log.append(e)?;
     }
@@ -379,13 +388,7 @@ fn the_first_fault(rt: HostRuntime) -> Result<(), AllocError> {
 fn a_fault_is_answered_again(rt: HostRuntime) -> Result<(), AllocError> {
     let alloc = rt.alloc();
     let mut decoder = Decoder::new(alloc)?;
-    let chunk = LogEntry::Chunk {
-        xid: 3,
-        table: 1,
-        value_id: 16384,
-        seq: 1,
-        bytes: Bytes::from_slice(alloc, &[0xaa])?,
-    };
+    let chunk = small_of(&rt, alloc, &Line::Chunk(3, 16384, 1, &[0xaa]))?;
     let fault = Some(DecodeFault::ChunkOrder { got: 1, wanted: 0 });
     assert!(rt; decoder.feed(&chunk).err() == fault);
     assert!(rt; decoder.given() == 0);
@@ -397,10 +400,10 @@ fn a_fault_is_answered_again(rt: HostRuntime) -> Result<(), AllocError> {
 fn a_fault_after_a_transaction(rt: HostRuntime) -> Result<(), Fail> {
     let alloc = rt.alloc();
     let mut decoder = Decoder::new(alloc)?;
-    let insert = entry_of(alloc, &Line::Insert(3, 1, &[Part::Null]))?;
-    let chunk = entry_of(alloc, &Line::Chunk(4, 16384, 1, &[0xaa]))?;
-    assert!(rt; is_small(&insert) && is_small(&chunk));
+    let insert = small_of(&rt, alloc, &Line::Insert(3, 1, &[Part::Null]))?;
+    let chunk = small_of(&rt, alloc, &Line::Chunk(4, 16384, 1, &[0xaa]))?;
     assert!(rt; decoder.feed(&insert)?.is_none());
+    assert!(rt; decoder.given() == 0);
     let Some(transaction) = decoder.feed(&LogEntry::Commit { xid: 3 })? else {
         return Err(Fail::new("no transaction"));
     };

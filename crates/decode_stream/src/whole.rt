@@ -36,8 +36,8 @@ fn send_next(
 /// give fewer than 2^32 - 1 transactions. The fault is the first that feeding them in order answers;
 /// `Memory` can come instead, whatever the log.
 ///
-/// It takes time linear in the log's bytes. A value's bytes are copied from the log and then moved,
-/// and once more for each further column that points to it.
+/// It takes time linear in the log's entries and bytes, on average. A value's bytes are copied from the
+/// log and then moved, and copied once more for each further column that points to it.
 pub fn decode_log(alloc: Global, log: &Log) -> Result<TransactionList, DecodeFault>
     requires { IsDecodable log.now.entries }
     ensures { IsDecoded log.now.entries result }

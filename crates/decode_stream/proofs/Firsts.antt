@@ -9,7 +9,8 @@ use Rattle.change_log.specs.declared.entry.LogEntry.{LogEntry}
 use Rattle.decode_stream.specs.declared.fault.DecodeFault.{DecodeFault}
 use Rattle.decode_stream.specs.declared.fault.DecodeFault.TheVariants.{ChunkOrder, SizeOf, Memory}
 use Rattle.decode_stream.specs.Decoding.{first, with_fronts, behind_last, open_entries, fault_at, commit_at, first_fault, commits}
-use Rattle.decode_stream.specs.States.{DecoderState, Decodes, OpenList, IsOpenAt, open_at, AreOpen, Feeds, Tells, given_after, lasting, next_of}
+use Rattle.decode_stream.specs.States.{DecoderState, Decodes, OpenList, IsOpenAt, open_at, AreOpen, Feeds, next_of}
+use Rattle.decode_stream.specs.Steps.{Tells, given_after, lasting}
 use Rattle.decode_stream.proofs.Lists.{with_fronts-push}
 
 module _ {X Y : Type 0} (f : X → Option Y) where

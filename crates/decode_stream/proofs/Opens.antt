@@ -11,7 +11,8 @@ use Rattle.change_log.specs.declared.entry.LogEntry.{LogEntry}
 use Rattle.change_log.specs.declared.entry.LogEntry.TheVariants.{Chunk, Insert, Update, Delete, Commit, Abort}
 use Rattle.decode_stream.specs.declared.gathered.ValueName.{ValueName}
 use Rattle.decode_stream.specs.Decoding.{GatheredValue, Found, xid_of, is_end, is_change, is_chunk_of, chunk_bytes, behind_last, with_fronts, open_entries, value_of, gathered, change_of, changes_of, unless_none, fault_of, fault_at, committed}
-use Rattle.decode_stream.specs.States.{Values, OpenState, OpenList, IsOpen, IsOpenAt, AreOpen, Starts, open_at, found_in, found_of, same_name, value_name, more_of, ended}
+use Rattle.decode_stream.specs.States.{Values, OpenState, OpenList, IsOpen, IsOpenAt, AreOpen, open_at, found_in, found_of, same_name, value_name}
+use Rattle.decode_stream.specs.Steps.{Starts, more_of, ended}
 use Rattle.decode_stream.proofs.Lists.{with_fronts-push, behind_last-push}
 
 -- the entries of an open transaction with one more

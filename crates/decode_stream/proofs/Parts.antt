@@ -11,7 +11,8 @@ use Rattle.change_log.specs.declared.entry.LogEntry.{LogEntry}
 use Rattle.decode_stream.specs.declared.fault.DecodeFault.{DecodeFault}
 use Rattle.decode_stream.specs.declared.fault.DecodeFault.TheVariants.{ChunkOrder, SizeOf, Memory}
 use Rattle.decode_stream.specs.Decoding.{TransactionState, Found, with_fronts, xid_of, is_end, behind_last, open_entries, gathered, fault_of, committed, fault_at, commit_at, first_fault, commits, numbered}
-use Rattle.decode_stream.specs.States.{OpenList, AreOpen, Fits, IsDecodable, Tells, found_of, open_at, next_of}
+use Rattle.decode_stream.specs.States.{OpenList, AreOpen, Fits, IsDecodable, found_of, open_at, next_of}
+use Rattle.decode_stream.specs.Steps.{Tells}
 use Rattle.decode_stream.proofs.Opens.{found_is}
 use Rattle.decode_stream.specs.Parts.{Told, ToldList, IsTold, IsPart, ArePartsFrom, AreGiven, Works, told_at, worker_at, is_own}
 use Rattle.decode_stream.proofs.Lists.{take_found}

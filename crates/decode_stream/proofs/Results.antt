@@ -3,7 +3,7 @@ use Rattle.std.proofs.Common.{◌≡◌, Option, sym, ◌∙◌}
 use Rattle.std.specs.Prelude.{Result, Ok, Err, OnErr}
 use Rattle.decode_stream.specs.declared.fault.DecodeFault.{DecodeFault}
 use Rattle.decode_stream.specs.declared.fault.DecodeFault.TheVariants.{ChunkOrder, SizeOf, Memory}
-use Rattle.decode_stream.specs.States.{Tells}
+use Rattle.decode_stream.specs.Steps.{Tells}
 
 pub on_err : {T E P : Type 0} (r : Result T E) → P → OnErr r P
 on_err (Ok x) p = tt

@@ -7,7 +7,8 @@ use Rattle.change_log.specs.declared.entry.LogEntry.{LogEntry}
 use Rattle.decode_stream.specs.declared.fault.DecodeFault.{DecodeFault}
 use Rattle.decode_stream.specs.declared.fault.DecodeFault.TheVariants.{ChunkOrder, SizeOf, Memory}
 use Rattle.decode_stream.specs.Decoding.{TransactionState, fault_at, commit_at, first_fault, commits, numbered, decoded, with_fronts, xid_of, Found}
-use Rattle.decode_stream.specs.States.{DecoderState, Decodes, Feeds, IsSent, IsDecodable, IsDecoded, Tells, Fits, found_of, open_at, next_of}
+use Rattle.decode_stream.specs.States.{DecoderState, Decodes, Feeds, IsDecodable, IsDecoded, Fits, found_of, open_at, next_of}
+use Rattle.decode_stream.specs.Steps.{IsSent, Tells}
 use Rattle.decode_stream.proofs.Opens.{found_is}
 use Rattle.decode_stream.proofs.Firsts.{fault_next, fault_stays, commits_more, commits_stay, commits_after}
 

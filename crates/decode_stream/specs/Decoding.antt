@@ -1,4 +1,4 @@
--- The transactions that a log decodes to. PostgreSQL documentation, "Logical Decoding Concepts"; values are put together as in reorderbuffer.c.
+-- The transactions that a log decodes to. PostgreSQL documentation, "Logical Decoding Concepts"; chunks as in reorderbuffer.c: in order (ReorderBufferToastAppendChunk), put together (ReorderBufferToastReplace), dropped (ReorderBufferToastReset).
 use Rattle.std.specs.Prelude.{ℕ, ◌+◌, Bool, true, false, not, ◌&&◌, ◌==◌, if◌then◌else◌, List, [], ◌∷◌, ◌++◌, map, reverse, length, slice_get, filter, filter_map, flat_map, take_while, Option, Some, None, Result, Ok, Err, is_none}
 use Rattle.std.specs.Ordering.{int_eq}
 use Rattle.change_log.specs.declared.entry.LogEntry.{LogEntry}

@@ -1,4 +1,5 @@
 pub mod Decoding
 pub mod States
+pub mod Steps
 pub mod Rows
 pub mod Parts

@@ -1,5 +1,5 @@
 -- A decoder as contracts see it, and the log for which it stands.
-use Rattle.std.specs.Prelude.{◌≡◌, ℕ, ◌+◌, ◌<◌, ◌≤◌, ◌^◌, Bool, ◌&&◌, ◌==◌, nat_eq, if◌then◌else◌, List, [], ◌∷◌, ◌++◌, length, Option, Some, None, Result, Ok, Err}
+use Rattle.std.specs.Prelude.{◌≡◌, ℕ, ◌+◌, ◌<◌, ◌≤◌, ◌^◌, Bool, ◌&&◌, ◌==◌, nat_eq, List, [], ◌∷◌, ◌++◌, length, Option, Some, None, Result, Ok, Err}
 use Rattle.std.specs.List.{All}
 use Rattle.std.specs.Map.{lookup}
 use Rattle.change_log.specs.declared.entry.LogEntry.{LogEntry}
@@ -11,7 +11,7 @@ use Rattle.stream_wire.specs.declared.message.Message.{Message}
 use Rattle.decode_stream.specs.declared.fault.DecodeFault.{DecodeFault}
 use Rattle.decode_stream.specs.declared.fault.DecodeFault.TheVariants.{Memory}
 use Rattle.decode_stream.specs.declared.gathered.ValueName.{ValueName}
-use Rattle.decode_stream.specs.Decoding.{TransactionState, GatheredValue, Found, xid_of, unless_none, gathered, open_entries, changes_of, first_fault, commits, commit_at, numbered, decode}
+use Rattle.decode_stream.specs.Decoding.{TransactionState, GatheredValue, Found, xid_of, gathered, open_entries, changes_of, first_fault, commits, commit_at, decode}
 
 -- the values that are gathered, by their names
 abbrev pub Values : Type 0
@@ -28,11 +28,6 @@ same_name a b = (a.table == b.table) && (a.value_id == b.value_id)
 -- what is gathered of a table's value id
 abbrev pub found_in : Values → Found
 found_in values table value_id = lookup (same_name (value_name table value_id)) values
-
--- a value with one chunk more
-abbrev pub more_of : Option GatheredValue → List ℕ → GatheredValue
-more_of None bytes = record { chunks = 1; bytes = bytes }
-more_of (Some value) bytes = record { chunks = value.chunks + 1; bytes = value.bytes ++ bytes }
 
 -- with a chunk more a value's numbers fit 32 bits
 abbrev pub HasRoom : Option GatheredValue → List ℕ → Type 0
@@ -75,11 +70,6 @@ abbrev pub found_of : Option OpenState → Found
 found_of None table value_id = None
 found_of (Some state) table value_id = found_in state.values table value_id
 
--- what ending a transaction gives: its changes, if it has any
-abbrev pub ended : Option OpenState → Option (List Message)
-ended None = None
-ended (Some state) = unless_none state.changes
-
 -- the open transactions, how many transactions were given, and the first fault
 pub record DecoderState : Type 0 where
   pub table : OpenList
@@ -100,36 +90,16 @@ IsOpenAt (Some state) own = IsOpen state own
 abbrev pub AreOpen : OpenList → List LogEntry → Type 0
 AreOpen table log = (xid : ℕ) → IsOpenAt (open_at table xid) (open_entries xid log)
 
--- a transaction with one entry is put into a table
-abbrev pub Starts : OpenList → OpenList → ℕ → LogEntry → Type 0
-Starts old new xid e = (state : OpenState) × IsOpen state (e ∷ []) × ((q : ℕ) → open_at new q ≡ (if nat_eq xid q then Some state else open_at old q))
-
 -- a decoder that was fed these entries
 pub record Decodes (state : DecoderState) (log : List LogEntry) : Type 0 where
   pub fault : state.fault ≡ first_fault log
   pub given : state.given ≡ length (commits log)
   pub table : first_fault log ≡ None → AreOpen state.table log
 
--- a result tells the first fault, or that there is none; want of memory tells nothing
-abbrev pub Tells : {X : Type 0} → Option DecodeFault → Result X DecodeFault → Type 0
-Tells fault (Ok x) = fault ≡ None
-Tells fault (Err Memory) = Unit {0}
-Tells fault (Err other) = fault ≡ Some other
-
 -- a transaction with the next number, if an entry commits changes
 abbrev pub next_of : ℕ → Option (List Message) → Option TransactionState
 next_of given None = None
 next_of given (Some changes) = Some (record { number = given + 1; changes = changes })
-
--- how many transactions are given after it
-abbrev pub given_after : ℕ → Option (List Message) → ℕ
-given_after given None = given
-given_after given (Some changes) = given + 1
-
--- the fault that a decoder keeps: any but want of memory
-abbrev pub lasting : DecodeFault → Option DecodeFault
-lasting Memory = None
-lasting fault = Some fault
 
 -- what feeding an entry after a log answers: the transaction that it commits, or the first fault; and the decoder was then fed it too
 abbrev pub Feeds : List LogEntry → LogEntry → DecoderState → Result (Option TransactionState) DecodeFault → Type 0
@@ -153,9 +123,3 @@ abbrev pub IsDecoded : List LogEntry → Result (List TransactionState) DecodeFa
 IsDecoded log (Ok sent) = decode log ≡ Ok sent
 IsDecoded log (Err Memory) = Unit {0}
 IsDecoded log (Err fault) = decode log ≡ Err fault
-
--- a decoder was fed a log without a fault, and these are its transactions
-pub record IsSent (state : DecoderState) (transactions : List TransactionState) (log : List LogEntry) : Type 0 where
-  pub decodes : Decodes state log
-  pub sound : first_fault log ≡ None
-  pub sent : transactions ≡ numbered 1 (commits log)

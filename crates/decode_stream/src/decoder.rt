@@ -1,11 +1,12 @@
 //! The decoder, one entry at a time.
 
-ghost use Rattle.std.specs.Prelude.{◌≡◌, ◌≢◌, ◌+◌, ◌<◌, ◌^◌, [], List, IfOk, IfSome, None};
+ghost use Rattle.std.specs.Prelude.{◌≡◌, ◌≢◌, ◌+◌, ◌<◌, ◌^◌, [], List, Err, IfOk, IfSome, None};
 ghost use Rattle.std.specs.List.{All};
 ghost use Rattle.stream_wire.specs.Spelling.{IsInRange};
 ghost use Rattle.change_log.specs.declared.entry.LogEntry.{LogEntry};
 ghost use Rattle.decode_stream.specs.Decoding.{xid_of};
-ghost use Rattle.decode_stream.specs.States.{Decodes, Feeds, Fits, Stays, found_of, given_after, lasting, next_of, open_at};
+ghost use Rattle.decode_stream.specs.States.{Decodes, Feeds, Fits, Stays, found_of, next_of, open_at};
+ghost use Rattle.decode_stream.specs.Steps.{given_after, lasting};
 
 use crate::fault::DecodeFault;
 use crate::table::Table;
@@ -56,14 +57,22 @@ impl Decoder {
 
     /// Takes the next entry, and answers the transaction that it commits, if that has a change.
     ///
-    /// An entry is refused where a chunk is not the next one of its value, or where a value that was
-    /// gathered has another length than its pointer says; the decoder then answers that fault again.
-    /// Where there is no memory, all is as before.
+    /// As long as there was no fault, fewer than 2^32 - 1 transactions were given before, and the
+    /// entry is within its ranges: a table from 1 to 16; 1 to 8 cells, of at most 65,536 bytes where
+    /// inline, and with pointers that say at most 65,536 bytes; and with a chunk, at most 2^32 - 1
+    /// chunks and bytes of its value, of those that its transaction gathered since its last change of
+    /// a row. After a fault nothing is asked.
+    ///
+    /// `ChunkOrder`: a chunk is not the next one of its value. `SizeOf`: a value that was gathered has
+    /// another length than its pointer says, at the first such cell of a row. After either fault each
+    /// further call answers that fault and changes nothing. `Memory`: no memory was left; all is as
+    /// before, and the entry can be fed again.
     pub fn feed(&mut self, e: &LogEntry) -> Result<Option<Transaction>, DecodeFault>
         requires given { self.old.fault ≡ None → self.old.given + 1 < 2 ^ 32 }
         requires fits { self.old.fault ≡ None → Fits (found_of (open_at self.old.table (xid_of e.now))) e.now }
         ensures fed { (log : List LogEntry) → Decodes self.old log → Feeds log e.now self.new result }
         ensures memory { Stays self.old self.new result }
+        ensures again { IfSome self.old.fault (λ fault. (result ≡ Err fault) × (self.new ≡ self.old)) }
     {
         if let Some(fault) = self.fault {
             return Err(fault);
@@ -93,7 +102,7 @@ impl Decoder {
         }
     }
 
-    /// How many transactions were given so far.
+    /// How many transactions were given so far, from 0 to 2^32 - 1.
     pub fn given(&self) -> u32
         ensures { result ≡ self.now.given }
     {

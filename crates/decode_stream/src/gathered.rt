@@ -4,7 +4,8 @@ ghost use Rattle.std.specs.Prelude.{◌≡◌, ◌+◌, ◌<◌, ◌^◌, cond, 
 ghost use Rattle.indexmap.specs.IndexMap.{get};
 ghost use Rattle.decode_stream.specs.Decoding.{order_fault};
 ghost use Rattle.decode_stream.specs.declared.gathered.ValueName.{ValueName};
-ghost use Rattle.decode_stream.specs.States.{HasRoom, Tells, more_of, same_name};
+ghost use Rattle.decode_stream.specs.States.{HasRoom, same_name};
+ghost use Rattle.decode_stream.specs.Steps.{Tells, more_of};
 
 use crate::fault::DecodeFault;
 use indexmap::IndexMap;
@@ -15,7 +16,9 @@ use toast_io::Bytes;
 /// The name of a value that is stored out of line.
 #[derive(Clone, Copy, Debug, PartialEq, Eq, Hash)]
 pub struct ValueName {
+    /// The table whose rows point to the value, from 1.
     pub table: u16,
+    /// The value's id, which is its own among the values of that table.
     pub value_id: u32,
 }
 

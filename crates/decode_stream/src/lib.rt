@@ -1,8 +1,9 @@
 //! The transactions that the log tells, each with its changes, in the order of their commits: values
 //! that were logged as chunks are put together again.
 //!
-//! Source: the PostgreSQL 17 documentation, "Logical Decoding"; the chunks are put together as by
-//! `ReorderBufferToastReplace` of reorderbuffer.c.
+//! Source: the PostgreSQL 17 documentation, "Logical Decoding"; and reorderbuffer.c, of which
+//! `ReorderBufferToastAppendChunk` asks for the next chunk, `ReorderBufferToastReplace` puts the chunks
+//! together, and `ReorderBufferToastReset` drops them.
 #![tactic(auto)]
 
 mod decoder;

@@ -6,7 +6,8 @@ ghost use Rattle.std.specs.Ordering.{int_eq};
 ghost use Rattle.stream_wire.specs.Spelling.{IsInRange};
 ghost use Rattle.change_log.specs.declared.entry.LogEntry.{LogEntry};
 ghost use Rattle.decode_stream.specs.Decoding.{change_of, fault_of, is_change, is_end};
-ghost use Rattle.decode_stream.specs.States.{Fits, IsOpen, Tells, found_in};
+ghost use Rattle.decode_stream.specs.States.{Fits, IsOpen, found_in};
+ghost use Rattle.decode_stream.specs.Steps.{Tells};
 
 use crate::fault::DecodeFault;
 use crate::gathered::{ValueName, Values, gather};

@@ -5,7 +5,8 @@ ghost use Rattle.std.specs.List.{list_any};
 ghost use Rattle.stream_wire.specs.Spelling.{AreColumns};
 ghost use Rattle.decode_stream.specs.Decoding.{cell_fault, column_of, first, sent_value, size_fault};
 ghost use Rattle.indexmap.specs.IndexMap.{get};
-ghost use Rattle.decode_stream.specs.States.{AreCells, Tells, found_in, same_name, value_name};
+ghost use Rattle.decode_stream.specs.States.{AreCells, found_in, same_name, value_name};
+ghost use Rattle.decode_stream.specs.Steps.{Tells};
 ghost use Rattle.decode_stream.specs.Rows.{planned, planned_of, pointed, points_to};
 
 use crate::fault::DecodeFault;

@@ -3,7 +3,8 @@
 ghost use Rattle.std.specs.Prelude.{◌≡◌, ◌≤◌, ◌<◌, ◌+◌, ◌^◌, ◌++◌, ◌∷◌, [], ℕ, List, false, length, nat_eq, slice_index_or, vec_len, IfOk, IfSome, None, OnOk};
 ghost use Rattle.change_log.specs.declared.entry.LogEntry.{LogEntry};
 ghost use Rattle.decode_stream.specs.Decoding.{commits, first_fault, numbered};
-ghost use Rattle.decode_stream.specs.States.{IsDecodable, IsDecoded, Tells};
+ghost use Rattle.decode_stream.specs.States.{IsDecodable, IsDecoded};
+ghost use Rattle.decode_stream.specs.Steps.{Tells};
 ghost use Rattle.decode_stream.specs.Parts.{AreGiven, ArePartsFrom, IsPart, IsTold, ToldList, told_at};
 
 use crate::fault::DecodeFault;
@@ -101,8 +102,10 @@ fn parts_of<R: Threads + Sync>(
     )
 }
 
-/// The transactions of a log, or its first fault, by a number of workers of at least 1. The answer is
-/// that of `decode_log`.
+/// The transactions of a log, or its first fault, by a number of workers of at least 1.
+///
+/// The log's conditions are those of `decode_log`, and so is the answer, but for `Memory`, which can
+/// come here or there, whatever the log.
 ///
 /// Each worker goes over the log and decodes the transactions whose xids are its own.
 pub fn decode_all<R: Threads + Sync>(

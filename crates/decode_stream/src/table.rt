@@ -6,7 +6,8 @@ ghost use Rattle.indexmap.specs.IndexMap.{get};
 ghost use Rattle.stream_wire.specs.Spelling.{IsInRange};
 ghost use Rattle.change_log.specs.declared.entry.LogEntry.{LogEntry};
 ghost use Rattle.decode_stream.specs.Decoding.{commit_at, fault_at, fault_of, is_end, xid_of};
-ghost use Rattle.decode_stream.specs.States.{AreOpen, Fits, IsOpen, Starts, Tells, ended, found_of, open_at};
+ghost use Rattle.decode_stream.specs.States.{AreOpen, Fits, IsOpen, found_of, open_at};
+ghost use Rattle.decode_stream.specs.Steps.{Starts, Tells, ended};
 
 use crate::fault::DecodeFault;
 use crate::open::Open;

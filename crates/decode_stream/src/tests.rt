@@ -117,14 +117,23 @@ fn is_small(e: &LogEntry) -> bool
     }
 }
 
+/// An entry that is within its ranges, and short.
+fn small_of(rt: &impl Abort, alloc: Global, line: &Line) -> Result<LogEntry, AllocError>
+    ensures ranged { IfOk result (λ e. Fits (λ table value_id. None) e) }
+    ensures short { IfOk result (λ e. length (chunk_bytes e) ≤ 1000) }
+{
+    let e = entry_of(alloc, line)?;
+    assert!(rt; is_small(&e));
+    Ok(e)
+}
+
 /// The log of a few short entries.
 fn logged(rt: &impl Abort, alloc: Global, lines: &[Line]) -> Result<Log, AllocError>
     ensures { IfOk result (λ log. IsDecodable log.entries) }
 {
     let mut log = Log::new(alloc);
     for line in lines {
-        let e = entry_of(alloc, line)?;
-        assert!(rt; is_small(&e));
+        let e = small_of(rt, alloc, line)?;
         assert!(rt; log.len() < 1000);
         log.append(e)?;
     }
@@ -241,6 +250,36 @@ fn transactions_are_apart(rt: HostRuntime) -> Result<(), Fail> {
     sends(&rt, alloc, &ended, &want)
 }
 
+/// Nothing of a transaction is left behind its end, so its xid can stand for another.
+#[test]
+fn an_end_leaves_nothing(rt: HostRuntime) -> Result<(), Fail> {
+    let alloc = rt.alloc();
+    let rolled_back = [
+        Line::Insert(3, 1, &[Part::In(b"x")]),
+        Line::Chunk(3, 16384, 0, b"y"),
+        Line::Abort(3),
+        Line::Insert(3, 9, &[Part::Null]),
+        Line::Commit(3),
+    ];
+    let want = [
+        0x42, 0, 0, 0, 1, 0x49, 0, 1, 0, 0, 0, 0, 0, 0, 0, 9, 0, 1, 0x6e, 0x43, 0, 0, 0, 1,
+    ];
+    sends(&rt, alloc, &rolled_back, &want)?;
+    let committed = [
+        Line::Insert(7, 2, &[Part::Null]),
+        Line::Chunk(7, 16384, 0, b"y"),
+        Line::Commit(7),
+        Line::Chunk(7, 16384, 0, b"z"),
+        Line::Delete(7, 2),
+        Line::Commit(7),
+    ];
+    let want = [
+        0x42, 0, 0, 0, 1, 0x49, 0, 1, 0, 0, 0, 0, 0, 0, 0, 2, 0, 1, 0x6e, 0x43, 0, 0, 0, 1, 0x42,
+        0, 0, 0, 2, 0x44, 0, 1, 0, 0, 0, 0, 0, 0, 0, 2, 0x43, 0, 0, 0, 2,
+    ];
+    sends(&rt, alloc, &committed, &want)
+}
+
 #[test]
 fn columns_of_changes(rt: HostRuntime) -> Result<(), Fail> {
     let alloc = rt.alloc();
@@ -271,10 +310,12 @@ fn columns_of_changes(rt: HostRuntime) -> Result<(), Fail> {
     sends(&rt, alloc, &moved, &want)
 }
 
-/// The session of "Logical Decoding Examples": a table is made, which changes no row; two rows in one
-/// transaction; a row in one of its own; and one that is rolled back.
+/// The sessions of "Logical Decoding Examples", with each data as its row's only column: a table is
+/// made, which changes no row; two rows in one transaction; two rows in one of their own each; a row
+/// that is prepared and then committed; and one that is prepared and then rolled back. Our log has no
+/// prepare.
 #[test]
-fn the_example_of_test_decoding(rt: HostRuntime) -> Result<(), Fail> {
+fn the_sessions_of_logical_decoding_examples(rt: HostRuntime) -> Result<(), Fail> {
     let lines = [
         Line::Commit(10297),
         Line::Insert(10298, 1, &[Part::In(b"1")]),
@@ -283,12 +324,40 @@ fn the_example_of_test_decoding(rt: HostRuntime) -> Result<(), Fail> {
         Line::Insert(10299, 3, &[Part::In(b"3")]),
         Line::Commit(10299),
         Line::Insert(10300, 4, &[Part::In(b"4")]),
-        Line::Abort(10300),
+        Line::Commit(10300),
+        Line::Insert(10301, 5, &[Part::In(b"5")]),
+        Line::Commit(10301),
+        Line::Insert(10302, 6, &[Part::In(b"6")]),
+        Line::Abort(10302),
     ];
     let want = [
         0x42, 0, 0, 0, 1, 0x49, 0, 1, 0, 0, 0, 0, 0, 0, 0, 1, 0, 1, 0x62, 0, 0, 0, 1, 0x31, 0x49,
         0, 1, 0, 0, 0, 0, 0, 0, 0, 2, 0, 1, 0x62, 0, 0, 0, 1, 0x32, 0x43, 0, 0, 0, 1, 0x42, 0, 0,
         0, 2, 0x49, 0, 1, 0, 0, 0, 0, 0, 0, 0, 3, 0, 1, 0x62, 0, 0, 0, 1, 0x33, 0x43, 0, 0, 0, 2,
+        0x42, 0, 0, 0, 3, 0x49, 0, 1, 0, 0, 0, 0, 0, 0, 0, 4, 0, 1, 0x62, 0, 0, 0, 1, 0x34, 0x43,
+        0, 0, 0, 3, 0x42, 0, 0, 0, 4, 0x49, 0, 1, 0, 0, 0, 0, 0, 0, 0, 5, 0, 1, 0x62, 0, 0, 0, 1,
+        0x35, 0x43, 0, 0, 0, 4,
+    ];
+    sends(&rt, rt.alloc(), &lines, &want)
+}
+
+/// The first example of the page of `test_decoding`, with its ids as keys: two rows are inserted, and
+/// then deleted in another transaction.
+#[test]
+fn the_example_of_test_decoding(rt: HostRuntime) -> Result<(), Fail> {
+    let lines = [
+        Line::Insert(691, 2, &[Part::In(b"arg")]),
+        Line::Insert(691, 3, &[Part::In(b"demo")]),
+        Line::Commit(691),
+        Line::Delete(692, 2),
+        Line::Delete(692, 3),
+        Line::Commit(692),
+    ];
+    let want = [
+        0x42, 0, 0, 0, 1, 0x49, 0, 1, 0, 0, 0, 0, 0, 0, 0, 2, 0, 1, 0x62, 0, 0, 0, 3, 0x61, 0x72,
+        0x67, 0x49, 0, 1, 0, 0, 0, 0, 0, 0, 0, 3, 0, 1, 0x62, 0, 0, 0, 4, 0x64, 0x65, 0x6d, 0x6f,
+        0x43, 0, 0, 0, 1, 0x42, 0, 0, 0, 2, 0x44, 0, 1, 0, 0, 0, 0, 0, 0, 0, 2, 0x44, 0, 1, 0, 0,
+        0, 0, 0, 0, 0, 3, 0x43, 0, 0, 0, 2,
     ];
     sends(&rt, rt.alloc(), &lines, &want)
 }
@@ -319,16 +388,31 @@ fn the_first_fault(rt: HostRuntime) -> Result<(), AllocError> {
 fn a_fault_is_answered_again(rt: HostRuntime) -> Result<(), AllocError> {
     let alloc = rt.alloc();
     let mut decoder = Decoder::new(alloc)?;
-    let chunk = LogEntry::Chunk {
-        xid: 3,
-        table: 1,
-        value_id: 16384,
-        seq: 1,
-        bytes: Bytes::new(alloc),
-    };
+    let chunk = small_of(&rt, alloc, &Line::Chunk(3, 16384, 1, &[0xaa]))?;
     let fault = Some(DecodeFault::ChunkOrder { got: 1, wanted: 0 });
     assert!(rt; decoder.feed(&chunk).err() == fault);
     assert!(rt; decoder.given() == 0);
     assert!(rt; decoder.feed(&LogEntry::Commit { xid: 4 }).err() == fault);
+    Ok(())
+}
+
+#[test]
+fn a_fault_after_a_transaction(rt: HostRuntime) -> Result<(), Fail> {
+    let alloc = rt.alloc();
+    let mut decoder = Decoder::new(alloc)?;
+    let insert = small_of(&rt, alloc, &Line::Insert(3, 1, &[Part::Null]))?;
+    let chunk = small_of(&rt, alloc, &Line::Chunk(4, 16384, 1, &[0xaa]))?;
+    assert!(rt; decoder.feed(&insert)?.is_none());
+    assert!(rt; decoder.given() == 0);
+    let Some(transaction) = decoder.feed(&LogEntry::Commit { xid: 3 })? else {
+        return Err(Fail::new("no transaction"));
+    };
+    assert!(rt; transaction.number() == 1);
+    assert!(rt; decoder.given() == 1);
+    let fault = Some(DecodeFault::ChunkOrder { got: 1, wanted: 0 });
+    assert!(rt; decoder.feed(&chunk).err() == fault);
+    assert!(rt; decoder.given() == 1);
+    assert!(rt; decoder.feed(&LogEntry::Abort { xid: 3 }).err() == fault);
+    assert!(rt; decoder.given() == 1);
     Ok(())
 }

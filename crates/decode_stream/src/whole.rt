@@ -3,7 +3,8 @@
 ghost use Rattle.std.specs.Prelude.{◌≡◌, ◌+◌, ◌<◌, ◌^◌, ◌++◌, ◌∷◌, [], List, OnOk};
 ghost use Rattle.change_log.specs.declared.entry.LogEntry.{LogEntry};
 ghost use Rattle.decode_stream.specs.Decoding.{first_fault, xid_of};
-ghost use Rattle.decode_stream.specs.States.{Decodes, Fits, IsDecodable, IsDecoded, IsSent, Tells, found_of, open_at};
+ghost use Rattle.decode_stream.specs.States.{Decodes, Fits, IsDecodable, IsDecoded, found_of, open_at};
+ghost use Rattle.decode_stream.specs.Steps.{IsSent, Tells};
 
 use crate::decoder::Decoder;
 use crate::fault::DecodeFault;
@@ -31,7 +32,12 @@ fn send_next(
 
 /// The transactions of a log, or its first fault.
 ///
-/// It takes time in the entries and their bytes; a chunk's bytes are copied once.
+/// Each entry, after those before it, is within the ranges that `Decoder::feed` asks for, and they
+/// give fewer than 2^32 - 1 transactions. The fault is the first that feeding them in order answers;
+/// `Memory` can come instead, whatever the log.
+///
+/// It takes time linear in the log's entries and bytes, on average. A value's bytes are copied from the
+/// log and then moved, and copied once more for each further column that points to it.
 pub fn decode_log(alloc: Global, log: &Log) -> Result<TransactionList, DecodeFault>
     requires { IsDecodable log.now.entries }
     ensures { IsDecoded log.now.entries result }

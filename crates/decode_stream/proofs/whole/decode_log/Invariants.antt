@@ -1,5 +1,5 @@
 use Rattle.std.proofs.Common.{take}
-use Rattle.decode_stream.specs.States.{IsSent}
+use Rattle.decode_stream.specs.Steps.{IsSent}
 use Rattle.decode_stream.proofs.whole.decode_log.Given as goal
 
 -- the entries so far are decoded

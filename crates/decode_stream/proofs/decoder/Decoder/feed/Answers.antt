@@ -2,7 +2,8 @@
 use Rattle.std.proofs.Common.{◌+◌, ◌<◌, ◌^◌, ◌≡◌, Option, None, List, ◌++◌, ◌∷◌, [], refl, sym, ap, subst, ◌∙◌}
 use Rattle.stream_wire.specs.declared.message.Message.{Message}
 use Rattle.decode_stream.specs.Decoding.{first_fault, xid_of}
-use Rattle.decode_stream.specs.States.{DecoderState, OpenList, AreOpen, Fits, found_of, open_at, given_after, next_of}
+use Rattle.decode_stream.specs.States.{DecoderState, OpenList, AreOpen, Fits, found_of, open_at, next_of}
+use Rattle.decode_stream.specs.Steps.{given_after}
 use Rattle.decode_stream.proofs.Firsts.{fed, feeds_again, feeds_refused}
 use Rattle.decode_stream.proofs.decoder.Decoder.feed.Goals as goal
 

@@ -2,7 +2,8 @@
 use Rattle.std.proofs.Common.{Option, Some, IsSome, nat_eq, refl, sym, ap, subst, ◌∙◌}
 use Rattle.std.proofs.lemmas.Result.{on_ok_weaker, on_err_weaker}
 use Rattle.decode_stream.specs.Decoding.{xid_of, fault_of}
-use Rattle.decode_stream.specs.States.{Fits, Tells, OpenState, found_of}
+use Rattle.decode_stream.specs.States.{Fits, OpenState, found_of}
+use Rattle.decode_stream.specs.Steps.{Tells}
 use Rattle.decode_stream.proofs.Tables.{set_same}
 use Rattle.decode_stream.proofs.Opens.{at_xid, updated, one_more, one_first}
 use Rattle.decode_stream.proofs.table.Table.take_in.Goals as goal

@@ -85,6 +85,10 @@ dead_tids_are page slots t held =
     let is = gathered_is is_dead_line page 0 slots t held in
     (is.on_page, dead_is (slot_at slots t.slot) (ap (λ k. is_dead_line (slot_at slots k)) (omega arith) ∙ is.passes))
 
+-- and each dead slot of the page is gathered
+pub are_dead_tids : {T : Type 0} (page : ℕ) (slots : List (LinePointer T)) (t : Tid) → t.page ≡ page → IsDead (slot_at slots t.slot) → Contains (dead_tids page slots) t
+are_dead_tids page slots t on_page dead = rw (tid_same t (record { page = page; slot = 0 + t.slot }) on_page (omega arith)) (gathered_at is_dead_line page 0 slots t.slot refl (is_dead (slot_at slots t.slot) dead))
+
 -- so does each of a list that was gathered
 pub gathered_dead : {T : Type 0} (page n : ℕ) (slots : List (LinePointer T)) (dead : List Tid) (t : Tid) → dead ≡ dead_tids page slots → slice_get dead n ≡ Some t → (t.page ≡ page) × IsDead (slot_at slots t.slot)
 gathered_dead page n slots dead t is at = dead_tids_are page slots t (subst (λ ts. Contains ts t) is (n, slice_get_within dead n t at, get_or_from_slice_get dead n t t at))
@@ -111,6 +115,23 @@ tids_sorted test page slot (line ∷ lines) = by_test (test line) (tids_sorted t
 -- the tids of a page's dead slots are in order
 pub dead_tids_sorted : {T : Type 0} (page : ℕ) (slots : List (LinePointer T)) → IsSorted tid_cmp (dead_tids page slots)
 dead_tids_sorted page slots = tids_sorted is_dead_line page 0 slots
+
+-- what was gathered of the pages below stays in order with them
+pub gathered_sorted : {T : Type 0} (page : ℕ) (slots : List (LinePointer T)) (before : List Tid) → IsSorted tid_cmp before → ((t : Tid) → Contains before t → t.page < page) → IsSorted tid_cmp (before ++ dead_tids page slots)
+gathered_sorted page slots before sorted below = λ k d low high. elim (cases_lt (k + 1) (length before)) [
+  | inl within ↦ rw (get_or_append_left before (dead_tids page slots) d (k + 1) within, get_or_append_left before (dead_tids page slots) d k (omega arith)) (sorted k d (omega arith) within)
+  | inr past ↦ elim (cases_lt k (length before)) [
+    | inl last ↦
+        let first : get_or (before ++ dead_tids page slots) (k + 1) d ≡ get_or (dead_tids page slots) 0 d = get_or-append_right before (dead_tids page slots) (length before) (k + 1) d refl past ∙ ap (λ n. get_or (dead_tids page slots) n d) (omega arith) in
+        let is = dead_tids_are page slots (get_or (dead_tids page slots) 0 d) (Contains-get_or (dead_tids page slots) 0 d (omega (arith, high, length-append before (dead_tids page slots)))) in
+        let lower = below (get_or before k d) (Contains-get_or before k d last) in
+        rw (first, get_or_append_left before (dead_tids page slots) d k last) (grind (arith, nat_tests, is.0, lower))
+    | inr beyond ↦ rw (get_or-append_right before (dead_tids page slots) (length before) (k + 1) d refl past, get_or-append_right before (dead_tids page slots) (length before) k d refl beyond, one_less (k + 1) k (length before) beyond refl) (dead_tids_sorted page slots (k - length before) d (omega arith) (omega (arith, high, beyond, length-append before (dead_tids page slots))))
+  ]
+]
+  where
+    one_less : (n k m : ℕ) → m ≤ k → n ≡ k + 1 → n - m ≡ (k - m) + 1
+    one_less n k m within is = omega (arith, within, is)
 
 -- a tid at a place of a list is of the list
 pub listed_at : (tids : List Tid) (n : ℕ) (t : Tid) → slice_get tids n ≡ Some t → Contains tids t

@@ -107,6 +107,13 @@ kept_rewritten pages lowest at k slots item read kept = elim (cases_lt at (lengt
   | inr past ↦ rw (set_past pages at (slice_set slots k (with_item (slot_at slots k) item)) past) kept
 ]
 
+-- a relation without a page, and without a mark
+pub kept_none : (T : Type 0) → IsKept {T = T} [] []
+kept_none T = record {
+  within = λ class. omega arith;
+  full_below = λ other page below. absurd (omega (arith, below));
+}
+
 -- marks that read alike are as good
 pub kept_marks : {T : Type 0} (pages : List (List (LinePointer T))) (lowest after : List ℕ) → ((class : ℕ) → slice_index after class ≡ slice_index lowest class) → IsKept pages lowest → IsKept pages after
 kept_marks pages lowest after same kept = record {

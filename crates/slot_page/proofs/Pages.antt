@@ -50,6 +50,10 @@ page_same pages page = elim (cases_lt page (length pages)) [
   | inr past ↦ set_past pages page (page_at pages page) past
 ]
 
+-- every other slot stays
+pub written_elsewhere : {T : Type 0} (pages : List (List (LinePointer T))) (t u : Tid) (line : LinePointer T) → u ≢ t → slot_of (written pages t line) u ≡ slot_of pages u
+written_elsewhere pages t u line other = elim (slot_of-written pages t u line) [ inl e ↦ e | inr h ↦ absurd (other h.0) ]
+
 -- where an item was put on one page
 put_slots : {T : Type 0} (size : ℕ) (item : T) (slots : List (LinePointer T)) (k : ℕ) → (slot_at (with_put size item slots) k ≡ slot_at slots k) ⊎ ((k ≡ first_unused slots) × (slot_at (with_put size item slots) k ≡ Normal size item))
 put_slots size item slots k = grind (arith, common_steps, get_or-set slots (first_unused slots) k (Normal size item) Unused, get_or-push slots k (Normal size item) Unused, prefix_len-le-length (λ line. not (is_unused line)) slots)
@@ -97,6 +101,10 @@ put_here size item pages = ap (λ slots. slot_at slots (first_unused (page_at pa
 pub put_was_free : {T : Type 0} (size : ℕ) (pages : List (List (LinePointer T))) → slot_of pages (put_tid size pages) ≡ Unused
 put_was_free size pages = free_slot (page_at pages (fit_page size pages))
 
+-- every other slot stays
+pub put_elsewhere : {T : Type 0} (size : ℕ) (item : T) (pages : List (List (LinePointer T))) (u : Tid) → u ≢ put_tid size pages → slot_of (with_put_on size item pages) u ≡ slot_of pages u
+put_elsewhere size item pages u other = elim (slot_of-put size item pages u) [ inl e ↦ e | inr h ↦ absurd (other h.0) ]
+
 -- on each page below the lowest one where it fits it does not fit
 pub lower_pages_full : {T : Type 0} (size : ℕ) (pages : List (List (LinePointer T))) (page : ℕ) → page < fit_page size pages → fits size (page_at pages page) ≡ false
 lower_pages_full size pages page below = fails_before_first (fits size) pages page [] below
@@ -108,6 +116,26 @@ fit_page_fits size pages there = passes_at_first (fits size) pages [] there
 -- the lowest page where it fits is told by the pages below and by the page itself
 pub fit_page_is : {T : Type 0} (size : ℕ) (pages : List (List (LinePointer T))) (page : ℕ) → page ≤ length pages → ((k : ℕ) → k < page → fits size (page_at pages k) ≡ false) → (page < length pages → fits size (page_at pages page) ≡ true) → fit_page size pages ≡ page
 fit_page_is size pages page within below here = position_or_len_is (fits size) pages page [] within below here
+
+-- an item of a size that a page may hold fits on a new page
+pub fits_new_page : (T : Type 0) (size : ℕ) → size ≤ 8160 → fits {T = T} size [] ≡ true
+fits_new_page T size most = grind (arith, nat_tests)
+
+-- what a function that leaves unused slots does to every slot it does at each place
+pub slot_of-map : {T : Type 0} (f : LinePointer T → LinePointer T) (pages : List (List (LinePointer T))) (t : Tid) → f Unused ≡ Unused → slot_of (map (map f) pages) t ≡ f (slot_of pages t)
+slot_of-map f pages t free =
+    ap (λ slots. slot_at slots t.slot) (get_or-map (map f) pages t.page []) ∙ (λ i. slice_index_or (map f (page_at pages t.page)) t.slot (sym free i)) ∙ get_or-map f (page_at pages t.page) t.slot Unused
+
+-- a slot with an item, or a dead one, is not unused
+normal_used : {T : Type 0} (line : LinePointer T) → IsNormal line → is_unused line ≡ false
+normal_used (Normal size item) n = refl
+normal_used Dead n = refl
+normal_used Unused n = absurd n
+
+dead_used : {T : Type 0} (line : LinePointer T) → IsDead line → is_unused line ≡ false
+dead_used (Normal size item) d = refl
+dead_used Dead d = refl
+dead_used Unused d = absurd d
 
 -- a dead slot has no item
 dead_empty : {T : Type 0} (line : LinePointer T) → IsDead line → item_of line ≡ None
@@ -121,6 +149,22 @@ rewritten (Normal size item) w n = refl
 rewritten Dead w n = absurd n
 rewritten Unused w n = absurd n
 
+-- a change at one tid leaves the items at all others
+pub items_elsewhere : {T : Type 0} (pages : List (List (LinePointer T))) (t u : Tid) (line : LinePointer T) → u ≢ t → item_in (written pages t line) u ≡ item_in pages u
+items_elsewhere pages t u line other = ap item_of (written_elsewhere pages t u line other)
+
+-- a tid that was made dead has no item
+pub item_gone : {T : Type 0} (pages : List (List (LinePointer T))) (t : Tid) → IsNormal (slot_of pages t) → item_in (written pages t Dead) t ≡ None
+item_gone pages t normal = ap item_of (written_here pages t Dead (normal_used (slot_of pages t) normal))
+
+-- a tid whose item was written has the new one
+pub item_rewritten : {T : Type 0} (pages : List (List (LinePointer T))) (t : Tid) (w : T) → IsNormal (slot_of pages t) → item_in (written pages t (with_item (slot_of pages t) w)) t ≡ Some w
+item_rewritten pages t w normal = ap item_of (written_here pages t (with_item (slot_of pages t) w) (normal_used (slot_of pages t) normal)) ∙ rewritten (slot_of pages t) w normal
+
+-- a dead tid that is made unused is unused
+pub slot_freed : {T : Type 0} (pages : List (List (LinePointer T))) (t : Tid) → IsDead (slot_of pages t) → slot_of (written pages t Unused) t ≡ Unused
+slot_freed pages t dead = written_here pages t Unused (dead_used (slot_of pages t) dead)
+
 -- and no item changes
 pub items_kept_when_freed : {T : Type 0} (pages : List (List (LinePointer T))) (t u : Tid) → IsDead (slot_of pages t) → item_in (written pages t Unused) u ≡ item_in pages u
 items_kept_when_freed pages t u dead = elim (slot_of-written pages t u Unused) [
@@ -131,3 +175,7 @@ items_kept_when_freed pages t u dead = elim (slot_of-written pages t u Unused) [
 -- the item that was put is at its tid
 pub item_put : {T : Type 0} (size : ℕ) (item : T) (pages : List (List (LinePointer T))) → item_in (with_put_on size item pages) (put_tid size pages) ≡ Some item
 item_put size item pages = ap item_of (put_here size item pages)
+
+-- and no other tid's item changes
+pub items_kept_when_put : {T : Type 0} (size : ℕ) (item : T) (pages : List (List (LinePointer T))) (u : Tid) → u ≢ put_tid size pages → item_in (with_put_on size item pages) u ≡ item_in pages u
+items_kept_when_put size item pages u other = ap item_of (put_elsewhere size item pages u other)

@@ -7,6 +7,10 @@ use Rattle.slot_page.specs.declared.line.LinePointer.{LinePointer}
 use Rattle.slot_page.specs.declared.line.LinePointer.TheVariants.{Normal, Dead, Unused}
 use Rattle.slot_page.specs.Slots.{is_unused, slot_at, rounded, taken, room, first_unused, fits, IsPage, most_slots}
 
+-- the room kept is the room by definition
+pub room_is : {T : Type 0} (slots : List (LinePointer T)) (kept : ℕ) → IsPage slots kept → room slots ≡ kept
+room_is slots kept page = omega (arith, page.sum)
+
 -- an unused slot takes no bytes
 pub unused_takes : {T : Type 0} (line : LinePointer T) → is_unused line ≡ true → taken line ≡ 0
 unused_takes (Normal size item) e = absurd (cc)
@@ -45,3 +49,20 @@ put_in_unused slots kept size slot item page search_found enough =
       few = omega (arith, same, page.few);
       sum = omega (arith, same, sums, free, page.sum, enough);
     }
+
+-- an item in a new slot takes its bytes and a line pointer from the room
+pub put_in_new : {T : Type 0} (slots : List (LinePointer T)) (kept size : ℕ) (item : T) → IsPage slots kept → length slots < most_slots → rounded size + 4 ≤ kept
+    → IsPage (slots ++ Normal size item ∷ []) (kept - (rounded size + 4))
+put_in_new slots kept size item page fewer enough =
+    let sums = sum_by_push taken slots (Normal size item) in
+    let more = length-append slots (Normal size item ∷ []) in
+    record {
+      few = omega (arith, more, fewer);
+      sum = omega (arith, more, sums, page.sum, enough);
+    }
+
+-- where no slot is unused, an item does not fit if there are as many slots as may be, or if there is no room for it and a line pointer
+pub no_new_slot : {T : Type 0} (slots : List (LinePointer T)) (kept size : ℕ) → IsPage slots kept → length slots ≤ first_unused slots → (most_slots ≤ length slots) ⊎ (kept < rounded size + 4)
+    → fits size slots ≡ false
+no_new_slot slots kept size page none (inl full) = grind (arith, common_steps, page.sum)
+no_new_slot slots kept size page none (inr small) = grind (arith, common_steps, page.sum)

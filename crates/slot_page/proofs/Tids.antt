@@ -15,6 +15,16 @@ use Rattle.list_facts.proofs.Members.{none_in_nil, cases_in}
 pub tid_same : (t u : Tid) → t.page ≡ u.page → t.slot ≡ u.slot → t ≡ u
 tid_same t u p q = λ i. record { page = p i; slot = q i }
 
+-- two tids are the same or not
+pub cases_tid : (t u : Tid) → (t ≡ u) ⊎ (t ≢ u)
+cases_tid t u = elim (cases_eq t.page u.page) [
+  | inl p ↦ elim (cases_eq t.slot u.slot) [
+    | inl q ↦ inl (tid_same t u p q)
+    | inr n ↦ inr (λ e. n (ap (λ (v : Tid). v.slot) e))
+  ]
+  | inr n ↦ inr (λ e. n (ap (λ (v : Tid). v.page) e))
+]
+
 -- the order by page and slot is total
 pub tid_total : IsTotalOrder tid_cmp
 tid_total = then_total (on_total (λ (t : Tid). t.page) nat_cmp_total) (on_total (λ (t : Tid). t.slot) nat_cmp_total)

@@ -81,13 +81,18 @@ fn save(
     Ok(())
 }
 
-/// Takes a fetch to its end over a store that stays as it is between its steps.
-fn finish(mut fetch: Fetch, store: &mut ToastStore) -> Result<Bytes, FetchFault>
+/// Takes a fetch to its end over a store that stays as it is between its steps, and counts these.
+fn finish(
+    mut fetch: Fetch,
+    store: &mut ToastStore,
+    steps: &mut usize,
+) -> Result<Bytes, FetchFault>
     requires { CanStep store.old.index fetch.walk }
     ensures bytes { IfOk result (λ bytes. outcome store.old fetch ≡ Ok bytes) }
     ensures fault { IfErr result (IsFetchCause (outcome store.old fetch)) }
 {
     loop {
+        *steps = steps.saturating_add(1);
         match fetch.step(store)? {
             FetchStep::More => {}
             FetchStep::Done(bytes) => return Ok(bytes),
@@ -123,7 +128,7 @@ fn fetched(
     end: u32,
 ) -> Result<Bytes, FetchFault> {
     let fetch = begin(rt, alloc, store, p, start, end)?;
-    finish(fetch, store)
+    finish(fetch, store, &mut 0)
 }
 
 /// Fetches what lies between the first of some places in a value, in order, and each of them.
@@ -159,23 +164,27 @@ fn a_span_between_any_edges_of_five_pieces_is_fetched(rt: HostRuntime) -> Result
     Ok(())
 }
 
-/// What becomes of fetching a span of a value of 5000 bytes that has these chunks, each a number and so many bytes.
+/// What becomes of fetching a span of a value of so many bytes that has these chunks, each a number and so
+/// many bytes, and after how many steps.
 fn fault_of(
     rt: &impl Abort,
     alloc: Global,
+    size: u32,
     chunks: &[(u32, usize)],
     start: u32,
     end: u32,
-) -> Result<Option<FetchFault>, AllocError> {
+) -> Result<(usize, Option<FetchFault>), AllocError> {
     let mut store = ToastStore::new(alloc, 8193)?;
     for (seq, len) in chunks {
         let bytes = data(alloc, *len)?;
         let _ = put(rt, &mut store, VALUE, *seq, &bytes)?;
     }
-    let fault = fetched(rt, alloc, &mut store, pointer(VALUE, 5000), start, end).err();
+    let mut steps = 0;
+    let fetch = begin(rt, alloc, &mut store, pointer(VALUE, size), start, end)?;
+    let fault = finish(fetch, &mut store, &mut steps).err();
     let swept = store.sweep_leaf(None, &one(alloc, Tid { page: 9, slot: 9 })?);
     assert!(rt; swept == Swept::End { removed: 0 });
-    Ok(fault)
+    Ok((steps, fault))
 }
 
 /// A list of one tid.
@@ -186,43 +195,35 @@ fn one(alloc: Global, tid: Tid) -> Result<TidList, AllocError>
 }
 
 #[test]
-fn the_first_fault_is_told_and_the_pin_dropped(rt: HostRuntime) -> Result<(), Fail> {
+fn the_first_fault_is_told_in_its_step_and_the_pin_dropped(rt: HostRuntime) -> Result<(), Fail> {
     let alloc = rt.alloc();
     let missing = |seq| Some(FetchFault::MissingChunk { seq });
     let unexpected = |got, wanted| Some(FetchFault::UnexpectedChunk { got, wanted });
     let size = |got, wanted| Some(FetchFault::ChunkSize { got, wanted });
     let all: &[(u32, usize)] = &[(0, 1996), (1, 1996), (2, 1008)];
-    let cases: [(&[(u32, usize)], u32, u32, Option<FetchFault>); 12] = [
-        (all, 0, 5000, None),
-        (&[(0, 1996)], 0, 2500, missing(1)),
-        (&[(1, 1996)], 0, 2500, unexpected(1, 0)),
-        (&[(0, 10)], 0, 2500, size(10, 1996)),
-        (&[], 0, 1, missing(0)),
-        (&[], 7, 7, None),
-        (&all[..2], 0, 3992, None),
-        (&all[..2], 0, 3993, missing(2)),
-        (
-            &[(0, 1996), (1, 1996), (2, 1007)],
-            3991,
-            3993,
-            size(1007, 1008),
-        ),
-        (&[(0, 10), (1, 1996)], 1996, 3992, None),
-        (
-            &[(0, 1996), (0, 1996), (1, 1996)],
-            0,
-            3992,
-            unexpected(0, 1),
-        ),
-        (
-            &[(0, 1996), (1, 1996), (1, 1996)],
-            0,
-            3992,
-            unexpected(1, 2),
-        ),
+    let three: &[(u32, usize)] = &[(0, 10), (1, 1996), (2, 1008)];
+    let twice: &[(u32, usize)] = &[(0, 1996), (0, 1996), (1, 1996)];
+    let over: &[(u32, usize)] = &[(0, 1996), (1, 1996), (1, 1996)];
+    let short: &[(u32, usize)] = &[(0, 1996), (1, 1996), (2, 1007)];
+    // The size of the value, its chunks, the span, and the step that tells the fault or is the last.
+    let cases: [(u32, &[(u32, usize)], u32, u32, usize, Option<FetchFault>); 14] = [
+        (2500, &[(0, 1996)], 0, 2500, 2, missing(1)),
+        (2500, &[(1, 1996)], 0, 2500, 2, unexpected(1, 0)),
+        (2500, &[(0, 10)], 0, 2500, 2, size(10, 1996)),
+        (5000, all, 0, 5000, 4, None),
+        (5000, three, 0, 5000, 2, size(10, 1996)),
+        (5000, &[], 0, 1, 1, missing(0)),
+        (5000, &[], 7, 7, 1, None),
+        (0, &[], 0, 0, 1, None),
+        (5000, &all[..2], 0, 3992, 3, None),
+        (5000, &all[..2], 0, 3993, 3, missing(2)),
+        (5000, short, 3991, 3993, 3, size(1007, 1008)),
+        (5000, &three[..2], 1996, 3992, 2, None),
+        (5000, twice, 0, 3992, 3, unexpected(0, 1)),
+        (5000, over, 0, 3992, 4, unexpected(1, 2)),
     ];
-    for (chunks, start, end, expected) in cases {
-        assert!(rt; fault_of(&rt, alloc, chunks, start, end)? == expected);
+    for (len, chunks, start, end, steps, expected) in cases {
+        assert!(rt; fault_of(&rt, alloc, len, chunks, start, end)? == (steps, expected));
     }
     Ok(())
 }

@@ -129,7 +129,9 @@ fn check(size: u32, wanted: u32, chunk: &ChunkView<'_>) -> Result<(), FetchFault
 }
 
 impl Fetch {
-    /// The fetching of a span of a pointer's value, with memory for its bytes.
+    /// The fetching of a span of a pointer's value, with memory for its bytes. The span's places are in
+    /// bytes, from 0; its start is at most its end, and its end at most the pointer's size. The error is for
+    /// want of memory.
     pub fn new(alloc: Global, p: Pointer, span: Span, session: u16) -> Result<Self, AllocError>
         requires ordered { span.start ≤ span.end }
         requires within { span.end ≤ p.size }

@@ -266,33 +266,49 @@ fn disturb(
     Ok(store.sweep_leaf(None, &dead))
 }
 
+/// Makes the steps of a fetch, with a disturbance after each: whether there are four, and these bytes come.
+fn is_undisturbed(
+    rt: &impl Abort,
+    alloc: Global,
+    store: &mut ToastStore,
+    xacts: &XactTable,
+    mut fetch: Fetch,
+    expected: &[u8],
+) -> Result<bool, Fail>
+    requires ready { CanStep store.old.index fetch.walk }
+    requires next { 5 ≤ next_xid xacts.now }
+    requires assigned { AreAssigned xacts.now store.old.rel.pages }
+{
+    for seq in 1..9 {
+        match fetch.step(store)? {
+            FetchStep::More => {
+                // The index has one leaf, so each sweep between the batch and its last entry waits.
+                let swept = disturb(rt, alloc, store, xacts, seq)?;
+                assert!(rt; swept == Swept::Pinned { holder: SESSION });
+            }
+            FetchStep::Done(bytes) => {
+                // What came meanwhile goes with what comes now.
+                let swept = disturb(rt, alloc, store, xacts, seq)?;
+                assert!(rt; swept == Swept::End { removed: 4 });
+                return Ok(seq == 4 && bytes.as_slice() == expected);
+            }
+        }
+    }
+    Ok(false)
+}
+
 #[test]
 fn a_fetch_is_not_disturbed_by_another_value(rt: HostRuntime) -> Result<(), Fail> {
     let alloc = rt.alloc();
     let xacts = two_committed(&rt, alloc)?;
     let mut store = ToastStore::new(alloc, 8193)?;
     let value = value_of(alloc, 5000)?;
-    save(&rt, &mut store, VALUE, value.as_slice())?;
-    let mut fetch = begin(&rt, alloc, &mut store, pointer(VALUE, 5000), 1, 4999)?;
+    let value = value.as_slice();
+    save(&rt, &mut store, VALUE, value)?;
+    let fetch = begin(&rt, alloc, &mut store, pointer(VALUE, 5000), 1, 4999)?;
     let swept = disturb(&rt, alloc, &mut store, &xacts, 0)?;
     assert!(rt; swept == Swept::End { removed: 1 });
-    for seq in 1..9 {
-        match fetch.step(&mut store)? {
-            FetchStep::More => {
-                // The index has one leaf, so each sweep between the batch and its last entry waits.
-                let swept = disturb(&rt, alloc, &mut store, &xacts, seq)?;
-                assert!(rt; swept == Swept::Pinned { holder: SESSION });
-            }
-            FetchStep::Done(bytes) => {
-                assert!(rt; seq == 4 && Some(bytes.as_slice()) == value.as_slice().get(1..4999));
-                // What came meanwhile goes with what comes now.
-                let swept = disturb(&rt, alloc, &mut store, &xacts, seq)?;
-                assert!(rt; swept == Swept::End { removed: 4 });
-                return Ok(());
-            }
-        }
-    }
-    assert!(rt; false);
+    assert!(rt; is_undisturbed(&rt, alloc, &mut store, &xacts, fetch, &value[1..4999])?);
     Ok(())
 }
 

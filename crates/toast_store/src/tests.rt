@@ -39,8 +39,9 @@ pub(crate) fn finish(
     ensures { (xacts : Xacts) → IsAssigned xacts save.old.xid → AreAssigned xacts store.old.rel.pages → AreAssigned xacts store.new.rel.pages }
 {
     for _ in 0..100 {
-        if let SaveStep::Done(pointer) = save.step(store, ids, log)? {
-            return Ok(pointer);
+        match save.step(store, ids, log)? {
+            SaveStep::More => {}
+            SaveStep::Done(pointer) => return Ok(pointer),
         }
     }
     Err(DrawFault::Memory)

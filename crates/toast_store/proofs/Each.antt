@@ -13,7 +13,6 @@ use Rattle.chunk_index.specs.Entries.{of_id}
 use Rattle.chunk_index.proofs.Inserts.{of_id_has, has_of_id}
 use Rattle.toast_store.specs.Stores.{Store, IsStore, chunks_of}
 use Rattle.toast_store.specs.Values.{Whole, Piece, piece_count, piece_in}
-use Rattle.toast_store.specs.Walks.{Walking}
 use Rattle.toast_store.specs.Marks.{Marking, IsEnded, IsMarked}
 use Rattle.toast_store.proofs.Chosen.{chosen_in}
 use Rattle.toast_store.proofs.Pieces.{made_below, map-map}

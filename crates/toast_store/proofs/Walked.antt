@@ -180,15 +180,6 @@ steps_remain walk entries stage not_over = by_stage walk.stage stage not_over
     by_stage (Reading batch at) of_walk n = omega (arith, of_walk.1)
     by_stage Over of_walk n = absurd (false≢true (sym n))
 
-pub none_remain : (walk : Walking) (entries : List Entry) → is_over walk.stage ≡ true → steps_left entries walk ≡ 0
-none_remain walk entries over = by_stage walk.stage over
-  where
-    by_stage : (s : WalkStage) → is_over s ≡ true → steps_at walk entries s ≡ 0
-    by_stage Empty o = absurd (false≢true o)
-    by_stage (Asking after) o = absurd (false≢true o)
-    by_stage (Reading batch at) o = absurd (false≢true o)
-    by_stage Over o = refl
-
 -- a walk that has not ended may make its next step: it asks again only after it has dropped its pin
 pub can_step : (index : Index) (walk : Walking) → is_over (stage_after index walk walk.stage) ≡ false → CanStep (index_walked index walk) (walk_after index walk)
 can_step index walk not_over = by_stage walk.stage not_over

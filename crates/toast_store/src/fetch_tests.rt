@@ -83,11 +83,7 @@ fn save(
 }
 
 /// Takes a fetch to its end over a store that stays as it is between its steps, and counts these.
-fn finish(
-    mut fetch: Fetch,
-    store: &mut ToastStore,
-    steps: &mut usize,
-) -> Result<Bytes, FetchFault>
+fn finish(mut fetch: Fetch, store: &mut ToastStore, steps: &mut usize) -> Result<Bytes, FetchFault>
     requires { CanStep store.old.index fetch.walk }
     ensures bytes { IfOk result (λ bytes. outcome store.old fetch ≡ Ok bytes) }
     ensures fault { IfErr result (IsFetchCause (outcome store.old fetch)) }

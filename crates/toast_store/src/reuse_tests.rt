@@ -24,7 +24,12 @@ fn an_id_whose_chunks_are_dead_is_used_again(rt: HostRuntime) -> Result<(), Fail
     // The entries stand, and their slots have no chunk.
     assert!(rt; !store.used(VALUE) && store.index().nth_of(VALUE, 1).is_some());
     let value = Bytes::from_slice(alloc, &[7; 3000])?;
-    let new = finish(&mut Save::new(alloc, 1, 1, 4, value), &mut store, &mut ids, &mut log)?;
+    let new = finish(
+        &mut Save::new(alloc, 1, 1, 4, value),
+        &mut store,
+        &mut ids,
+        &mut log,
+    )?;
     assert!(rt; new.value_id == VALUE && store.used(VALUE));
     let bytes = fetched(&rt, alloc, &mut store, new, 0, 3000)?;
     assert!(rt; bytes.as_slice() == &[7; 3000][..]);

@@ -1,4 +1,3 @@
-use Rattle.std.proofs.Common.{◌≡◌}
 use Rattle.xact_status.specs.Xacts.{Xacts, IsAssigned}
 use Rattle.chunk_relation.specs.Relations.{AreAssigned}
 use Rattle.toast_store.proofs.fetch_tests.save.Given as goal

@@ -1,4 +1,4 @@
-use Rattle.std.proofs.Common.{ℕ, ◌≡◌, refl, sym, ap, ◌∙◌, subst}
+use Rattle.std.proofs.Common.{ℕ, ◌≡◌, sym, ap, ◌∙◌, subst}
 use Rattle.xact_status.specs.Xacts.{Xacts, IsAssigned}
 use Rattle.chunk_relation.specs.Relations.{Relation, AreAssigned}
 use Rattle.toast_store.specs.Stores.{Store}

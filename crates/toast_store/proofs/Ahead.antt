@@ -1,5 +1,5 @@
--- What others do to a store, seen from a walk through a value's entries: the chunks that it still comes to.
-use Rattle.std.proofs.Common.{ℕ, ◌≡◌, ◌≢◌, inl, inr, Bool, true, false, cond, not, ◌&&◌, ◌==◌, Option, List, [], ◌++◌, length, map, drop, Contains, slice_get, refl, sym, ap, ◌∙◌, ◌-◌, subst, arith}
+-- What others do to a store, seen from a walk through a value's entries: the chunks that it still comes to, and what a fetch comes to.
+use Rattle.std.proofs.Common.{ℕ, ◌≡◌, ◌≢◌, inl, inr, Bool, true, false, cond, not, ◌&&◌, ◌==◌, Result, Err, Option, List, [], ◌∷◌, ◌++◌, length, map, drop, Contains, slice_get, refl, sym, ap, ◌∙◌, ◌+◌, ◌-◌, subst, arith}
 use Rattle.std.specs.Option.{option_map}
 use Rattle.std.proofs.lemmas.Bool.Decides.{nat_tests}
 use Rattle.std.proofs.lemmas.List.Elements.{Contains-append_cases, filter_map-append}
@@ -7,6 +7,7 @@ use Rattle.list_facts.proofs.Members.{none_in_nil}
 use Rattle.slot_page.specs.declared.line.Tid.{Tid}
 use Rattle.slot_page.specs.Pages.{slot_of, item_in, with_put_on}
 use Rattle.slot_page.proofs.Pages.{put_was_free}
+use Rattle.slice_fetch.specs.declared.Span.{Span}
 use Rattle.xact_status.specs.Xacts.{Xacts}
 use Rattle.chunk_relation.specs.declared.chunk.Chunk.{Chunk}
 use Rattle.chunk_relation.proofs.Events.{chunk_of-put, chunk_of-pruned, chunk_of-reaped}
@@ -19,8 +20,11 @@ use Rattle.chunk_index.proofs.Batches.{wanted_are}
 use Rattle.toast_store.specs.declared.walk.WalkStage.{WalkStage}
 use Rattle.toast_store.specs.declared.walk.WalkStage.TheVariants.{Empty, Asking, Reading, Over}
 use Rattle.toast_store.specs.Stores.{Store, Names, IsStore, named_by}
-use Rattle.toast_store.specs.Values.{piece_in}
+use Rattle.toast_store.specs.Values.{Piece, piece_in, piece_size}
 use Rattle.toast_store.specs.Walks.{Walking, ahead, ahead_at, batch_left, wanted_by}
+use Rattle.toast_store.specs.declared.fault.FetchFault.{FetchFault}
+use Rattle.toast_store.specs.declared.fault.FetchFault.TheVariants.{UnexpectedChunk, ChunkSize}
+use Rattle.toast_store.specs.Fetches.{Fetching, compared, comparison, outcome, part_of}
 use Rattle.toast_store.specs.Between.{LeavesAhead, IsBatchNamed, IsAheadSpared, Puts, Adds, Ends, Prunes, Sweeps, Reaps, Pins}
 use Rattle.toast_store.proofs.Chosen.{chosen_agree, chosen_map, chosen_filters, chosen_in}
 use Rattle.toast_store.proofs.Kept.{swept_listed, same_piece}
@@ -117,3 +121,28 @@ pub sweep_leaves_ahead : (old new : Store) (leaf : Leaf) (dead : List Tid) (walk
 sweep_leaves_ahead old new leaf dead walk sweeps = other_entries old new walk walk.stage sweeps.pages (λ after.
     ap (λ es. named_by old.rel.pages (wanted_by walk after es)) sweeps.entries
     ∙ chosen_filters (λ (e : Entry). item_in old.rel.pages e.tid) (is_wanted walk.value_id walk.first (walk.end - 1) after) (λ (e : Entry). not (is_swept old.index.bounds leaf dead e)) old.index.entries (λ e held taken. sweeps.gone e.tid (swept_listed old.index.bounds leaf dead e taken)))
+
+-- a comparison looks at the pieces of chunks alone, so it is the same whoever has put and ended them
+same_compared : (size end : ℕ) (span : Span) (seq : ℕ) (got : List ℕ) (xs ys : List Chunk) → map piece_in xs ≡ map piece_in ys → compared size end span seq got xs ≡ compared size end span seq got ys
+same_compared size end span seq got [] [] same = refl
+same_compared size end span seq got [] (y ∷ ys) same = absurd (cc)
+same_compared size end span seq got (x ∷ xs) [] same = absurd (cc)
+same_compared size end span seq got (x ∷ xs) (y ∷ ys) same =
+    let first : piece_in x ≡ piece_in y = cc in
+    ap (λ n. told n x.bytes (compared size end span (seq + 1) (got ++ part_of span seq x.bytes) xs)) (ap (λ (p : Piece). p.seq) first)
+    ∙ ap (λ bytes. told y.seq bytes (compared size end span (seq + 1) (got ++ part_of span seq bytes) xs)) (ap (λ (p : Piece). p.bytes) first)
+    ∙ ap (told y.seq y.bytes) (same_compared size end span (seq + 1) (got ++ part_of span seq y.bytes) xs ys (cc))
+  where
+    told : ℕ → List ℕ → Result (List ℕ) FetchFault → Result (List ℕ) FetchFault
+    told number bytes rest = cond (not (number == seq)) (Err (UnexpectedChunk number seq)) (cond (not (length bytes == piece_size size seq)) (Err (ChunkSize (length bytes) (piece_size size seq))) rest)
+
+pub same_comparison : (fetch : Fetching) (xs ys : List Chunk) → map piece_in xs ≡ map piece_in ys → comparison fetch xs ≡ comparison fetch ys
+same_comparison fetch xs ys same = same_compared fetch.size fetch.walk.end fetch.span fetch.next fetch.got xs ys same
+
+-- who leaves the chunks ahead leaves what a fetch comes to
+pub outcome_left : (old new : Store) (fetch : Fetching) → LeavesAhead fetch.walk old new → outcome new fetch ≡ outcome old fetch
+outcome_left old new fetch left = ap (comparison fetch) left
+
+-- and so does who ends a chunk, of the fetched value too
+pub end_keeps_outcome : (old new : Store) (tid : Tid) (xid : ℕ) (fetch : Fetching) → Ends old new tid xid → outcome new fetch ≡ outcome old fetch
+end_keeps_outcome old new tid xid fetch ends = same_comparison fetch (named_by new.rel.pages (ahead new.index.entries fetch.walk)) (named_by old.rel.pages (ahead old.index.entries fetch.walk)) (end_leaves_pieces old new tid xid fetch.walk ends)

@@ -13,6 +13,7 @@ use Rattle.chunk_index.specs.Entries.{of_id}
 use Rattle.chunk_index.proofs.Inserts.{of_id_has, has_of_id}
 use Rattle.toast_store.specs.Stores.{Store, IsStore, chunks_of}
 use Rattle.toast_store.specs.Values.{Whole, Piece, piece_count, piece_in}
+use Rattle.toast_store.specs.Marks.{Marking, IsEnded, IsMarked}
 use Rattle.toast_store.proofs.Chosen.{chosen_in}
 use Rattle.toast_store.proofs.Pieces.{made_below, map-map}
 use Rattle.toast_store.proofs.Saving.{seq_of}
@@ -154,3 +155,13 @@ whole_once store pointer value seq e f is whole of_e of_f =
 
     apart : Apart (map (λ (c : Chunk). c.seq) (chunks_of store pointer.value_id))
     apart = subst Apart (sym keys) (range_apart 0 (piece_count (length value)))
+
+-- once a mark over all of the value's pieces is done, each chunk of the value is ended by its transaction
+pub marked_whole : (store : Store) (pointer : Pointer) (value : List ℕ) (mark : Marking) (chunk : Chunk) → IsStore store → Whole store pointer value → IsMarked store mark
+    → mark.walk.value_id ≡ pointer.value_id → mark.walk.first ≡ 0 → mark.walk.end ≡ piece_count pointer.size → Contains (chunks_of store pointer.value_id) chunk → chunk.ender ≡ Some mark.xid
+marked_whole store pointer value mark chunk is whole marked same first end listed =
+    let found = from_chosen (λ (f : Entry). item_in store.rel.pages f.tid) (of_id pointer.value_id store.index.entries) chunk listed in
+    let has = of_id_has pointer.value_id store.index.entries found.0 found.1 in
+    let below = (whole_named store pointer value found.0 chunk is whole has.0 has.1 found.2).0 in
+    let ended = marked.each found.0 has.0 (record { of_value = has.1 ∙ sym same; from_first = omega (arith, first); before_end = omega (arith, below, end, ap piece_count whole.size) }) in
+    subst (IsEnded mark.xid) found.2 ended

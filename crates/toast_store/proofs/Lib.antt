@@ -14,3 +14,4 @@ pub mod Ahead
 pub mod Each
 pub mod Marked
 pub mod Held
+pub mod Assigned

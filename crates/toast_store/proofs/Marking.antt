@@ -1,9 +1,9 @@
 -- That a mark ends the chunk of each entry of its value.
 use Rattle.std.proofs.Common.{◌≡◌, ℕ, ◌-◌, ◌⊎◌, inl, inr, Bool, true, false, cond, nat_lt, Option, Some, None, List, Contains, refl, sym, ap, ◌∙◌, subst, arith}
 use Rattle.std.specs.Prelude.{is_some}
-use Rattle.std.proofs.lemmas.Bool.{lt-ltb, false≢true}
+use Rattle.std.proofs.lemmas.Bool.{lt-ltb}
 use Rattle.std.proofs.lemmas.Option.{none-some}
-use Rattle.list_facts.proofs.Members.{none_in_nil, cases_in}
+use Rattle.list_facts.proofs.Members.{cases_in}
 use Rattle.slot_page.specs.declared.line.Tid.{Tid}
 use Rattle.slot_page.specs.declared.line.LinePointer.{LinePointer}
 use Rattle.slot_page.specs.declared.line.LinePointer.TheVariants.{Normal, Dead, Unused}
@@ -18,10 +18,10 @@ use Rattle.chunk_index.specs.declared.entry.Entry.{Entry}
 use Rattle.chunk_index.specs.Indexes.{Index, IsIndex}
 use Rattle.chunk_index.proofs.Batches.{are_wanted}
 use Rattle.toast_store.specs.Stores.{Store}
-use Rattle.toast_store.specs.Walks.{Walking, IsOfWalk, IsUnderWay, IsAsking, is_over, ahead, ahead_at, entry_at, index_walked, walk_after, new_walk}
+use Rattle.toast_store.specs.Walks.{Walking, IsOfWalk, IsUnderWay, IsAsking, ahead, ahead_at, entry_at, index_walked, walk_after, new_walk}
 use Rattle.toast_store.specs.declared.walk.WalkStage.{WalkStage}
-use Rattle.toast_store.specs.declared.walk.WalkStage.TheVariants.{Empty, Asking, Reading, Over}
-use Rattle.toast_store.specs.Marks.{Marking, IsEnded, IsMarking, IsMarked, marked, store_marked}
+use Rattle.toast_store.specs.declared.walk.WalkStage.TheVariants.{Empty, Asking}
+use Rattle.toast_store.specs.Marks.{Marking, IsEnded, IsMarking, marked, store_marked}
 use Rattle.toast_store.proofs.Walked.{ahead_asked, ahead_taken, entries_walked}
 
 -- a slot has an ended chunk, or none
@@ -99,14 +99,3 @@ marking_asked store later opened mark walk same at is under_way asking walks sto
     let later_is : later ≡ store_marked store opened = stores ∙ ap (λ o. record store { rel = record store.rel { pages = marked opened.xid store.rel.pages o }; index = index_walked store.index opened.walk }) at in
     let kept = marking_kept store opened is (subst (λ (m : Marking). IsUnderWay m.walk.stage) (sym same) under_way) (λ u none. asking u) (subst (IsMarking store) (sym same) marking) in
     subst (λ (s : Store). IsMarking s (record opened { walk = walk })) (sym later_is) (subst (λ (w : Walking). IsMarking (store_marked store opened) (record opened { walk = w })) (sym walks) kept)
-
--- once its walk is over each chunk is ended
-pub marking_done : (store : Store) (mark : Marking) → is_over mark.walk.stage ≡ true → IsMarking store mark → IsMarked store mark
-marking_done store mark over marking = record { each = λ e held of_walk. by_stage e mark.walk.stage over (marking.each e held of_walk) }
-  where
-    by_stage : (e : Entry) (s : WalkStage) → is_over s ≡ true → Contains (ahead_at mark.walk store.index.entries s) e ⊎ IsEnded mark.xid (item_in store.rel.pages e.tid) → IsEnded mark.xid (item_in store.rel.pages e.tid)
-    by_stage e s o (inr done) = done
-    by_stage e Empty o (inl later) = absurd (false≢true o)
-    by_stage e (Asking after) o (inl later) = absurd (false≢true o)
-    by_stage e (Reading batch at) o (inl later) = absurd (false≢true o)
-    by_stage e Over o (inl later) = absurd (none_in_nil e later)

@@ -1,5 +1,6 @@
 -- What the steps of a fetch do to what it comes to.
-use Rattle.std.proofs.Common.{◌≡◌, ℕ, true, Option, Some, None, List, refl, sym, ap, ◌∙◌}
+use Rattle.std.proofs.Common.{◌≡◌, ℕ, true, Option, Some, None, List, refl, sym, ap, ◌∙◌, subst}
+use Rattle.std.specs.Option.{option_and_then}
 use Rattle.std.specs.List.{cons_option}
 use Rattle.slot_page.specs.Pages.{item_in}
 use Rattle.chunk_relation.specs.declared.chunk.Chunk.{Chunk}
@@ -9,7 +10,7 @@ use Rattle.chunk_index.specs.Indexes.{Index, IsIndex}
 use Rattle.toast_store.specs.Stores.{Store, named_by}
 use Rattle.toast_store.specs.Walks.{Walking, IsAsking, ahead, entry_at, is_over, walk_after, index_walked}
 use Rattle.toast_store.specs.declared.fault.FetchFault.{FetchFault}
-use Rattle.toast_store.specs.Fetches.{Fetching, IsFetchCause, comparison, fetch_after, outcome, with_chunk}
+use Rattle.toast_store.specs.Fetches.{Fetching, IsFetchCause, answer_by, answer_due, comparison, fetch_after, outcome, refusal, with_chunk}
 use Rattle.toast_store.proofs.Walked.{ahead_asked, ahead_taken, ended_unpinned}
 
 -- a step that takes an entry compares the chunk that it names, if any, and goes on with the rest
@@ -21,6 +22,13 @@ outcome_taken store fetch e is = ap (λ es. comparison fetch (named_by store.rel
 pub cause_taken : (store : Store) (opened fetch : Fetching) (e : Entry) (fault : FetchFault) → opened ≡ fetch → entry_at opened.walk.stage ≡ Some e
     → ((chunks : List Chunk) → IsFetchCause (comparison fetch (cons_option (item_in store.rel.pages e.tid) chunks)) fault) → IsFetchCause (outcome store fetch) fault
 cause_taken store opened fetch e fault same is cause = rw (outcome_taken store fetch e (ap (λ (f : Fetching). entry_at f.walk.stage) (sym same) ∙ is)) (cause _)
+
+-- and it is what this step tells, whatever else it would leave
+pub due_taken : (store : Store) (opened fetch : Fetching) (e : Entry) (fault : FetchFault) → opened ≡ fetch → entry_at opened.walk.stage ≡ Some e
+    → ((after : Fetching) → IsFetchCause (answer_by after (option_and_then (refusal fetch.size fetch.next) (item_in store.rel.pages e.tid))) fault) → IsFetchCause (answer_due store fetch) fault
+due_taken store opened fetch e fault same is cause =
+    let taken : entry_at fetch.walk.stage ≡ Some e = ap (λ (f : Fetching). entry_at f.walk.stage) (sym same) ∙ is in
+    subst (λ (o : Option Entry). IsFetchCause (answer_by (fetch_after store fetch) (option_and_then (refusal fetch.size fetch.next) (option_and_then (λ f. item_in store.rel.pages f.tid) o))) fault) (sym taken) (cause (fetch_after store fetch))
 
 pub with_chunk_walk : (fetch : Fetching) (o : Option Chunk) → Fetching.walk (with_chunk fetch o) ≡ fetch.walk
 with_chunk_walk fetch None = refl

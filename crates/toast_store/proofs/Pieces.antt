@@ -1,10 +1,9 @@
 -- The pieces of a value.
-use Rattle.std.proofs.Common.{ℕ, ◌≡◌, ◌+◌, ◌-◌, ◌*◌, ◌<◌, ◌≤◌, zero, suc, inl, inr, List, [], ◌∷◌, Contains, length, map, take, drop, min, refl, sym, ap, ◌∙◌, arith}
+use Rattle.std.proofs.Common.{ℕ, ◌≡◌, ◌+◌, ◌-◌, ◌*◌, ◌<◌, zero, suc, inl, inr, List, [], ◌∷◌, Contains, length, map, take, drop, min, refl, sym, ap, ◌∙◌, arith}
 use Rattle.std.proofs.lemmas.List.{take_all, take_min, length-drop}
 use Rattle.std.specs.List.{range_with_len}
 use Rattle.list_facts.proofs.Members.{none_in_nil, cases_in}
 use Rattle.slice_fetch.specs.Spans.{chunk_size, piece}
-use Rattle.toast_store.specs.Values.{piece_count}
 
 -- a piece is cut from what is left of the value
 pub piece_cut : (value : List ℕ) (seq n : ℕ) → n ≡ min (length (take (length value - seq * 1996) (drop (seq * 1996) value))) 1996 → take n (take (length value - seq * 1996) (drop (seq * 1996) value)) ≡ piece value seq
@@ -15,10 +14,6 @@ piece_cut value seq n is =
     let least : n ≡ min 1996 (length rest) = omega (arith, is, ap length all) in
     let place : seq * 1996 ≡ chunk_size * seq = omega arith in
     ap (take n) all ∙ ap (λ k. take k rest) least ∙ take_min 1996 rest ∙ ap (λ k. take 1996 (drop k value)) place
-
--- a value that is not empty has a piece
-pub some_piece : (size : ℕ) → 1 ≤ size → 1 ≤ piece_count size
-some_piece size least = omega (arith, least)
 
 -- what is made of each element of what was made of each
 pub map-map : {X Y Z : Type 0} (g : Y → Z) (f : X → Y) (xs : List X) → map g (map f xs) ≡ map (λ x. g (f x)) xs

@@ -1,7 +1,8 @@
 -- What a step of a walk leaves to be taken, and that the steps left fall.
-use Rattle.std.proofs.Common.{◌≡◌, ℕ, ◌<◌, ◌≤◌, ◌+◌, ◌-◌, ◌*◌, Bool, true, false, not, ◌==◌, cond, filter, nat_lt, max, Option, Some, None, List, [], ◌∷◌, ◌++◌, length, get_or, drop, refl, sym, ap, ◌∙◌, subst, arith}
+use Rattle.std.proofs.Common.{◌≡◌, ◌≢◌, ℕ, ◌<◌, ◌≤◌, ◌+◌, ◌-◌, ◌*◌, Bool, true, false, not, ◌==◌, cond, filter, nat_lt, max, Option, Some, None, List, [], ◌∷◌, ◌++◌, length, get_or, drop, refl, sym, ap, ◌∙◌, subst, arith}
 use Rattle.std.specs.Prelude.{slice_get}
 use Rattle.std.proofs.lemmas.Bool.{ltb-true, ltb-false, false≢true}
+use Rattle.std.proofs.lemmas.Bool.Decides.{nat_tests}
 use Rattle.std.proofs.lemmas.List.{drop_more, drop_all, length-append, nil_from_length}
 use Rattle.std.proofs.lemmas.Option.{slice_get_within, get_or_from_slice_get, slice_get-get_or, none-some}
 use Rattle.chunk_index.specs.declared.entry.Entry.{Entry}
@@ -10,7 +11,7 @@ use Rattle.chunk_index.specs.declared.entry.Pin.{Pin}
 use Rattle.chunk_index.specs.Pinned.{pin_of, without_pin}
 use Rattle.chunk_index.specs.Indexes.{Index, IsIndex, batch_of, after_batch}
 use Rattle.chunk_index.proofs.Batches.{none_left_out, entries-batch}
-use Rattle.chunk_index.proofs.PinFacts.{pin_dropped}
+use Rattle.chunk_index.proofs.PinFacts.{pin_dropped, pin_of-batch, pin_of-without}
 use Rattle.toast_store.specs.declared.walk.WalkStage.{WalkStage}
 use Rattle.toast_store.specs.declared.walk.WalkStage.TheVariants.{Empty, Asking, Reading, Over}
 use Rattle.toast_store.specs.Walks.{Walking, new_walk, IsStage, IsUnderWay, IsAsking, MayAsk, CanStep, is_over, wanted_by, ahead_at, ahead, entry_at, stage_of_batch, stage_after, walk_after, index_after, index_walked, asks_left, steps_at, steps_left}
@@ -179,15 +180,6 @@ steps_remain walk entries stage not_over = by_stage walk.stage stage not_over
     by_stage (Reading batch at) of_walk n = omega (arith, of_walk.1)
     by_stage Over of_walk n = absurd (false≢true (sym n))
 
-pub none_remain : (walk : Walking) (entries : List Entry) → is_over walk.stage ≡ true → steps_left entries walk ≡ 0
-none_remain walk entries over = by_stage walk.stage over
-  where
-    by_stage : (s : WalkStage) → is_over s ≡ true → steps_at walk entries s ≡ 0
-    by_stage Empty o = absurd (false≢true o)
-    by_stage (Asking after) o = absurd (false≢true o)
-    by_stage (Reading batch at) o = absurd (false≢true o)
-    by_stage Over o = refl
-
 -- a walk that has not ended may make its next step: it asks again only after it has dropped its pin
 pub can_step : (index : Index) (walk : Walking) → is_over (stage_after index walk walk.stage) ≡ false → CanStep (index_walked index walk) (walk_after index walk)
 can_step index walk not_over = by_stage walk.stage not_over
@@ -273,12 +265,20 @@ begun index walk value_id first end session is free = subst (CanStep index) (sym
     by_test true = (tt, free)
     by_test false = (tt, tt)
 
--- whether a walk may go on is told by the pins
-pub can_still : (old new : Index) (walk : Walking) → new.pins ≡ old.pins → CanStep old walk → CanStep new walk
+-- whether a walk may go on is told by the pin of its session
+pub can_still : (old new : Index) (walk : Walking) → pin_of new.pins walk.session ≡ pin_of old.pins walk.session → CanStep old walk → CanStep new walk
 can_still old new walk same can = (can.0, by_stage walk.stage can.1)
   where
     by_stage : (s : WalkStage) → MayAsk old walk.session s → MayAsk new walk.session s
     by_stage Empty may = tt
-    by_stage (Asking after) may = ap (λ pins. pin_of pins walk.session) same ∙ may
+    by_stage (Asking after) may = same ∙ may
     by_stage (Reading batch at) may = tt
     by_stage Over may = tt
+
+-- so it may where another session asks for a batch
+pub batch_leaves_step : (index : Index) (session : ℕ) (wanted : List Entry) (walk : Walking) → pin_of index.pins session ≡ None → walk.session ≢ session → CanStep index walk → CanStep (after_batch index session wanted) walk
+batch_leaves_step index session wanted walk free other can = can_still index (after_batch index session wanted) walk (pin_of-batch index session wanted walk.session free other) can
+
+-- and where another drops its pin
+pub unpin_leaves_step : (index : Index) (session : ℕ) (walk : Walking) → walk.session ≢ session → CanStep index walk → CanStep (record index { pins = without_pin index.pins session }) walk
+unpin_leaves_step index session walk other can = can_still index (record index { pins = without_pin index.pins session }) walk (pin_of-without index.pins session walk.session ∙ grind (arith, nat_tests, other)) can

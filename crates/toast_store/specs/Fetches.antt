@@ -9,7 +9,7 @@ use Rattle.chunk_relation.specs.declared.chunk.Chunk.{Chunk}
 use Rattle.chunk_index.specs.Pinned.{without_pin}
 use Rattle.toast_store.specs.Stores.{Store, IsStore, named_by}
 use Rattle.toast_store.specs.Values.{Whole, piece_count, piece_size}
-use Rattle.toast_store.specs.Walks.{Walking, CanStep, new_walk, ahead, entry_at, walk_after}
+use Rattle.toast_store.specs.Walks.{Walking, CanStep, new_walk, ahead, entry_at, is_over, walk_after}
 use Rattle.toast_store.specs.declared.fault.FetchFault.{FetchFault}
 use Rattle.toast_store.specs.declared.fault.FetchFault.TheVariants.{MissingChunk, UnexpectedChunk, ChunkSize, Memory}
 use Rattle.toast_store.specs.declared.fetch.FetchStep.{FetchStep}
@@ -30,10 +30,11 @@ pub record IsFetch (fetch : Fetching) : Type 0 where
   pub within : fetch.span.end ≤ fetch.size
   pub next : fetch.next ≤ piece_count fetch.size
 
--- the numbers of the first piece of a span, and of the one after its last
+-- the number of the first piece of a span
 abbrev pub first_of : Span → ℕ
 first_of span = span.start / chunk_size
 
+-- the number of the piece after its last, which is the first's where the span is empty
 abbrev pub end_of : Span → ℕ
 end_of span = if nat_lt span.start span.end then (span.end - 1) / chunk_size + 1 else first_of span
 
@@ -74,6 +75,21 @@ next_chunk store walk = option_and_then (λ e. item_in store.rel.pages e.tid) (e
 abbrev pub fetch_after : Store → Fetching → Fetching
 fetch_after store fetch = let read = with_chunk fetch (next_chunk store fetch.walk) in record read { walk = walk_after store.index fetch.walk }
 
+-- why a chunk is refused where the piece with a number is wanted of a value of this size: for its number, or else for its length
+abbrev pub refusal : ℕ → ℕ → Chunk → Option FetchFault
+refusal size wanted chunk =
+    if not (chunk.seq == wanted) then Some (UnexpectedChunk chunk.seq wanted) else
+    (if not (length chunk.bytes == piece_size size wanted) then Some (ChunkSize (length chunk.bytes) (piece_size size wanted)) else None)
+
+-- what a step answers, by why its chunk is refused, if it is, and else by what it leaves: a walk that goes on, or one that is over, with a piece still wanted or with all bytes
+abbrev pub answer_by : Fetching → Option FetchFault → Result FetchStep FetchFault
+answer_by after (Some fault) = Err fault
+answer_by after None = if not (is_over after.walk.stage) then Ok More else (if nat_lt after.next after.walk.end then Err (MissingChunk after.next) else Ok (Done after.got))
+
+-- what a step answers where there is memory: a chunk is refused in the step that reads it, and an end that comes too early in the step that ends the walk
+abbrev pub answer_due : Store → Fetching → Result FetchStep FetchFault
+answer_due store fetch = answer_by (fetch_after store fetch) (option_and_then (refusal fetch.size fetch.next) (next_chunk store fetch.walk))
+
 -- a store in which a pointer is whole gives the span's bytes
 abbrev pub FetchesWhole : Pointer → Span → Fetching → Type 0
 FetchesWhole pointer span fetch = (store : Store) (value : List ℕ) → IsStore store → Whole store pointer value → outcome store fetch ≡ Ok (bytes_in span value)
@@ -93,12 +109,12 @@ abbrev pub IsFetchReady : Store → Fetching → FetchStep → Type 0
 IsFetchReady store fetch More = CanStep store.index fetch.walk
 IsFetchReady store fetch (Done bytes) = fetch.walk.stage ≡ Over
 
--- so does a fault; want of memory tells nothing
-abbrev pub IsFetchCause : Result (List ℕ) FetchFault → FetchFault → Type 0
-IsFetchCause before (MissingChunk seq) = before ≡ Err (MissingChunk seq)
-IsFetchCause before (UnexpectedChunk got wanted) = before ≡ Err (UnexpectedChunk got wanted)
-IsFetchCause before (ChunkSize got wanted) = before ≡ Err (ChunkSize got wanted)
-IsFetchCause before Memory = ⊤
+-- a fault is the one that was to come, where it is not want of memory
+abbrev pub IsFetchCause : {X : Type 0} → Result X FetchFault → FetchFault → Type 0
+IsFetchCause due (MissingChunk seq) = due ≡ Err (MissingChunk seq)
+IsFetchCause due (UnexpectedChunk got wanted) = due ≡ Err (UnexpectedChunk got wanted)
+IsFetchCause due (ChunkSize got wanted) = due ≡ Err (ChunkSize got wanted)
+IsFetchCause due Memory = ⊤
 
 -- after want of memory a fetch is as before; after another fault it is over
 abbrev pub IsFetchAfter : FetchFault → Fetching → Fetching → Type 0

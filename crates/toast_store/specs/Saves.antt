@@ -85,6 +85,7 @@ StandsAt store ids save (Putting value_id seq) = HasIndexed store ids save value
 StandsAt store ids save (Indexing value_id seq tid) = HasIndexed store ids save value_id seq × HasPut store save value_id seq tid
 StandsAt store ids save Saved = ⊤
 
+-- the same where it stands
 abbrev pub SaveStands : Store → Pool → Saving → Type 0
 SaveStands store ids save = StandsAt store ids save save.stage
 
@@ -167,6 +168,7 @@ steps_at count (Putting value_id seq) = 2 * (count - seq)
 steps_at count (Indexing value_id seq tid) = 2 * (count - seq) - 1
 steps_at count Saved = 0
 
+-- the same where it stands
 abbrev pub steps_left : Saving → ℕ
 steps_left save = steps_at (piece_count (length save.value)) save.stage
 

@@ -82,6 +82,7 @@ ahead_at walk entries (Asking after) = wanted_by walk after entries
 ahead_at walk entries (Reading batch at) = drop at batch.entries ++ (if batch.more then wanted_by walk (slice_get batch.entries (length batch.entries - 1)) entries else [])
 ahead_at walk entries Over = []
 
+-- the same where it stands
 abbrev pub ahead : List Entry → Walking → List Entry
 ahead entries walk = ahead_at walk entries walk.stage
 
@@ -116,28 +117,32 @@ stage_after index walk (Asking after) = stage_of_batch (wanted_by walk after ind
 stage_after index walk (Reading batch at) = if nat_lt (at + 1) (length batch.entries) then Reading batch (at + 1) else (if batch.more then Asking (slice_get batch.entries at) else Over)
 stage_after index walk Over = Over
 
+-- a walk after its next step
 abbrev pub walk_after : Index → Walking → Walking
 walk_after index walk = record walk { stage = stage_after index walk walk.stage }
 
--- the index after that step: a batch pins its leaf, and its last entry drops the pin
+-- the index after that step, by where the walk stood: a batch pins its leaf, and its last entry drops the pin
 abbrev pub index_after : Index → Walking → WalkStage → Index
 index_after index walk Empty = index
 index_after index walk (Asking after) = after_batch index walk.session (wanted_by walk after index.entries)
 index_after index walk (Reading batch at) = if nat_lt (at + 1) (length batch.entries) then index else record index { pins = without_pin index.pins walk.session }
 index_after index walk Over = index
 
+-- the same from where the walk stands
 abbrev pub index_walked : Index → Walking → Index
 index_walked index walk = index_after index walk walk.stage
 
--- how many steps are left at most, where the index stays as it is: one for each entry of the batch, and two for each that is still to be asked for
+-- how many steps are left at most to ask for some entries and take them: two for each, and one where there is none
 abbrev pub asks_left : List Entry → ℕ
 asks_left wanted = max 1 (2 * length wanted)
 
+-- how many steps are left at most, by where a walk stands, where the index stays as it is: one for each entry of the batch, and those of what is still to be asked for
 abbrev pub steps_at : Walking → List Entry → WalkStage → ℕ
 steps_at walk entries Empty = 1
 steps_at walk entries (Asking after) = asks_left (wanted_by walk after entries)
 steps_at walk entries (Reading batch at) = length batch.entries - at + (if batch.more then asks_left (wanted_by walk (slice_get batch.entries (length batch.entries - 1)) entries) else 0)
 steps_at walk entries Over = 0
 
+-- the same where the walk stands
 abbrev pub steps_left : List Entry → Walking → ℕ
 steps_left entries walk = steps_at walk entries walk.stage

@@ -1,8 +1,8 @@
 //! Fetching a part of a value.
 
-ghost use Rattle.std.specs.Prelude.{◌≡◌, ℕ, ◌-◌, ◌*◌, ◌≤◌, ◌<◌, IfErr, IfOk, IfSome, OnErr, OnOk, List, ◌∷◌, Err, length, min};
+ghost use Rattle.std.specs.Prelude.{◌≡◌, ℕ, ◌-◌, ◌*◌, ◌≤◌, ◌<◌, IfErr, IfOk, IfSome, OnErr, OnOk, List, ◌∷◌, Ok, Err, Some, None, length, min};
 ghost use Rattle.std.specs.List.{cons_option};
-ghost use Rattle.std.specs.Option.{option_map};
+ghost use Rattle.std.specs.Option.{option_and_then, option_map};
 ghost use Rattle.slot_page.specs.Pages.{item_in};
 ghost use Rattle.chunk_relation.specs.declared.chunk.Chunk.{Chunk};
 ghost use Rattle.chunk_relation.specs.Chunks.{chunk_shown, most_bytes};
@@ -12,7 +12,7 @@ ghost use Rattle.slice_fetch.specs.Spans.{chunk_size};
 ghost use Rattle.toast_store.specs.Stores.{IsStore};
 ghost use Rattle.toast_store.specs.Values.{piece_size};
 ghost use Rattle.toast_store.specs.Walks.{IsBatchHeld, IsStage, IsUnderWay, MayAsk, index_walked, steps_left, walk_after};
-ghost use Rattle.toast_store.specs.Fetches.{FetchesWhole, IsFetchAfter, IsFetchAnswer, IsFetchCause, IsFetchLeft, IsFetchProgress, IsFetchReady, compared, comparison, end_of, fetch_after, first_of, new_fetch, outcome, part_of, store_after_fault, with_chunk};
+ghost use Rattle.toast_store.specs.Fetches.{FetchesWhole, IsFetchAfter, IsFetchAnswer, IsFetchCause, IsFetchLeft, IsFetchProgress, IsFetchReady, Fetching, answer_by, answer_due, compared, comparison, end_of, fetch_after, first_of, new_fetch, next_chunk, outcome, part_of, refusal, store_after_fault, with_chunk};
 
 use crate::fault::FetchFault;
 use crate::store::ToastStore;
@@ -110,6 +110,8 @@ fn check(size: u32, wanted: u32, chunk: &ChunkView<'_>) -> Result<(), FetchFault
     requires { length chunk.now.bytes.now ≤ most_bytes }
     ensures number { OnOk result (chunk.now.seq ≡ wanted) }
     ensures size { OnOk result (length chunk.now.bytes.now ≡ piece_size size wanted) }
+    ensures taken { OnOk result (refusal size wanted (chunk_shown chunk.now) ≡ None) }
+    ensures refused { IfErr result (λ fault. refusal size wanted (chunk_shown chunk.now) ≡ Some fault) }
     ensures fault { IfErr result (λ fault. (end : ℕ) (span : Span) (got : List ℕ) (chunks : List Chunk) → compared size end span wanted got (chunk_shown chunk.now ∷ chunks) ≡ Err fault) }
 {
     if chunk.seq != wanted {
@@ -127,7 +129,9 @@ fn check(size: u32, wanted: u32, chunk: &ChunkView<'_>) -> Result<(), FetchFault
 }
 
 impl Fetch {
-    /// The fetching of a span of a pointer's value, with memory for its bytes.
+    /// The fetching of a span of a pointer's value, with memory for its bytes. The span's places are in
+    /// bytes, from 0; its start is at most its end, and its end at most the pointer's size. The error is for
+    /// want of memory.
     pub fn new(alloc: Global, p: Pointer, span: Span, session: u16) -> Result<Self, AllocError>
         requires ordered { span.start ≤ span.end }
         requires within { span.end ≤ p.size }
@@ -153,6 +157,8 @@ impl Fetch {
         ensures read { OnOk result (self.new ≡ with_chunk self.old (item_in store.now.rel.pages tid)) }
         ensures same { OnOk result ((chunks : List Chunk) → comparison self.new chunks ≡ comparison self.old (cons_option (item_in store.now.rel.pages tid) chunks)) }
         ensures cause { IfErr result (λ fault. (chunks : List Chunk) → IsFetchCause (comparison self.old (cons_option (item_in store.now.rel.pages tid) chunks)) fault) }
+        ensures taken { OnOk result (option_and_then (refusal self.old.size self.old.next) (item_in store.now.rel.pages tid) ≡ None) }
+        ensures refused { IfErr result (λ fault. (after : Fetching) → IsFetchCause (answer_by after (option_and_then (refusal self.old.size self.old.next) (item_in store.now.rel.pages tid))) fault) }
         ensures unchanged { OnErr result (self.new ≡ self.old) }
     {
         let Some(chunk) = chunk_at(store, tid) else {
@@ -176,6 +182,8 @@ impl Fetch {
         ensures same { OnOk result (outcome store.new self.new ≡ outcome store.old self.old) }
         ensures left { OnOk result (steps_left store.new.index.entries self.new.walk < steps_left store.old.index.entries self.old.walk) }
         ensures cause { IfErr result (IsFetchCause (outcome store.old self.old)) }
+        ensures taken { OnOk result (option_and_then (refusal self.old.size self.old.next) (next_chunk store.old self.old.walk) ≡ None) }
+        ensures refused { IfErr result (IsFetchCause (answer_due store.old self.old)) }
         ensures fetch_stays { OnErr result (self.new ≡ self.old) }
         ensures store_stays { OnErr result (store.new ≡ store.old) }
     {
@@ -208,13 +216,16 @@ impl Fetch {
     ///
     /// # Errors
     /// The first fault of the chunks in range, in the order of their entries, against the value's pieces
-    /// there: `UnexpectedChunk` for another number, `ChunkSize` for another length, `MissingChunk` where
-    /// they end too early. The pin is then dropped and the fetch over. After `Memory` all is as before.
+    /// there: `UnexpectedChunk` for another number and `ChunkSize` for another length, in the step that
+    /// reads the chunk; `MissingChunk` where they end too early, in the step that ends the value. The pin is
+    /// then dropped and the fetch over. After `Memory` all is as before.
     pub fn step(&mut self, store: &mut ToastStore) -> Result<FetchStep, FetchFault>
         requires under_way { IsUnderWay self.old.walk.stage }
         requires pin { MayAsk store.old.index self.old.walk.session self.old.walk.stage }
         ensures answer { IfOk result (IsFetchAnswer (outcome store.old self.old) (outcome store.new self.new)) }
         ensures cause { IfErr result (IsFetchCause (outcome store.old self.old)) }
+        ensures told { IfOk result (λ step. answer_due store.old self.old ≡ Ok step) }
+        ensures due { IfErr result (IsFetchCause (answer_due store.old self.old)) }
         ensures fetch { IfOk result (IsFetchLeft (fetch_after store.old self.old) self.new) }
         ensures walk { OnOk result (self.new.walk ≡ walk_after store.old.index self.old.walk) }
         ensures store { OnOk result (store.new ≡ record store.old { index = index_walked store.old.index self.old.walk }) }

@@ -9,6 +9,8 @@ mod fetch;
 #[cfg(test)]
 mod fetch_tests;
 mod mark;
+#[cfg(test)]
+mod reuse_tests;
 mod save;
 mod store;
 #[cfg(test)]

@@ -40,7 +40,7 @@ impl Model for Mark {
 }
 
 /// Marks the chunk at a tid, if there is one, as ended by a transaction.
-fn end_chunk(store: &mut ToastStore, tid: Tid, xid: u64)
+pub(crate) fn end_chunk(store: &mut ToastStore, tid: Tid, xid: u64)
     ensures { store.new ≡ record store.old { rel = record store.old.rel { pages = (if is_some (item_in store.old.rel.pages tid) then with_ended xid store.old.rel.pages tid else store.old.rel.pages) } } }
 {
     if store.rel().chunk_at(tid).is_some() {
@@ -49,7 +49,8 @@ fn end_chunk(store: &mut ToastStore, tid: Tid, xid: u64)
 }
 
 impl Mark {
-    /// The marking of a pointer's value by the transaction with this xid.
+    /// The marking of a pointer's value by the transaction with this xid. It covers the chunks under the
+    /// pointer's id whose numbers are those of the pieces of a value of its size, from 0 on.
     pub fn new(p: Pointer, xid: u64, session: u16) -> Self
         ensures mark { result ≡ new_mark p xid session }
         ensures marking { (store : Store) → IsMarking store result }

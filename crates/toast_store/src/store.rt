@@ -44,7 +44,7 @@ impl Model for ToastStore {
 }
 
 impl ToastStore {
-    /// A store whose relation has this id, with no chunk and no entry.
+    /// A store whose relation has this id, with no chunk and no entry. The error is for want of memory.
     pub fn new(alloc: Global, rel_id: u32) -> Result<Self, AllocError>
         ensures empty { IfOk result (λ store. store ≡ record { rel = record { rel_id = rel_id; pages = [] }; index = record { entries = []; bounds = []; pins = [] } }) }
         ensures sound { IfOk result IsStore }

@@ -1,6 +1,6 @@
 ghost use Rattle.std.specs.Prelude.{◌≡◌, ◌≤◌, [], ◌∷◌, Some, IfOk, length};
 ghost use Rattle.slot_page.specs.Pages.{item_in};
-ghost use Rattle.xact_status.specs.Xacts.{Xacts, next_xid};
+ghost use Rattle.xact_status.specs.Xacts.{IsAssigned, Xacts, next_xid};
 ghost use Rattle.chunk_relation.specs.Chunks.{new_chunk};
 ghost use Rattle.chunk_relation.specs.Relations.{AreAssigned};
 ghost use Rattle.toast_store.specs.Saves.{IsUnderWay, SaveStands};
@@ -17,7 +17,7 @@ use value_ids::{DrawFault, IdPool, IdTest};
 use xact_status::XactTable;
 
 /// A value of so many bytes, no two of whose pieces are the same.
-fn value_of(alloc: Global, len: usize) -> Result<Bytes, AllocError>
+pub(crate) fn value_of(alloc: Global, len: usize) -> Result<Bytes, AllocError>
     ensures { IfOk result (λ value. length value ≡ len) }
 {
     let mut value = Bytes::new(alloc);
@@ -28,7 +28,7 @@ fn value_of(alloc: Global, len: usize) -> Result<Bytes, AllocError>
 }
 
 /// Makes the steps of a save until it is done.
-fn finish(
+pub(crate) fn finish(
     save: &mut Save,
     store: &mut ToastStore,
     ids: &mut IdPool,
@@ -36,17 +36,19 @@ fn finish(
 ) -> Result<Pointer, DrawFault>
     requires under_way { IsUnderWay save.old.stage }
     requires stands { SaveStands store.old ids.old save.old }
+    ensures { (xacts : Xacts) → IsAssigned xacts save.old.xid → AreAssigned xacts store.old.rel.pages → AreAssigned xacts store.new.rel.pages }
 {
     for _ in 0..100 {
-        if let SaveStep::Done(pointer) = save.step(store, ids, log)? {
-            return Ok(pointer);
+        match save.step(store, ids, log)? {
+            SaveStep::More => {}
+            SaveStep::Done(pointer) => return Ok(pointer),
         }
     }
     Err(DrawFault::Memory)
 }
 
 /// Saves a value of so many bytes in table 1, by session 1 in transaction 3.
-fn saved(
+pub(crate) fn saved(
     alloc: Global,
     store: &mut ToastStore,
     ids: &mut IdPool,
@@ -55,6 +57,7 @@ fn saved(
 ) -> Result<Pointer, DrawFault>
     requires least { 21 ≤ len }
     requires most { len ≤ 65536 }
+    ensures { (xacts : Xacts) → IsAssigned xacts 3 → AreAssigned xacts store.old.rel.pages → AreAssigned xacts store.new.rel.pages }
 {
     let value = value_of(alloc, len)?;
     let mut save = Save::new(alloc, 1, 1, 3, value);
@@ -158,15 +161,12 @@ fn the_first_pointer_of_a_table(rt: HostRuntime) -> Result<(), DrawFault> {
     let mut bytes = [0; 18];
     write_pointer(&pointer, &mut bytes);
     assert!(rt; bytes == [1, 18, 209, 7, 0, 0, 205, 7, 0, 0, 0, 64, 0, 0, 1, 32, 0, 0]);
-    let last = store.index().nth_of(16384, 1);
-    assert!(rt;
-        last.is_some_and(|entry| {
-            store
-                .rel()
-                .chunk_at(entry.tid)
-                .is_some_and(|chunk| chunk.bytes.len() == 1)
-        })
-    );
+    for (n, len) in [(0, 1996), (1, 1)] {
+        let tid = store.index().nth_of(16384, n).map(|entry| entry.tid);
+        let chunk = tid.and_then(|tid| store.rel().chunk_at(tid));
+        assert!(rt; chunk.is_some_and(|chunk| chunk.bytes.len() == len));
+    }
+    assert!(rt; store.index().nth_of(16384, 2).is_none());
     Ok(())
 }
 

@@ -1,30 +1,20 @@
 -- What an id that is drawn is, and what is in hand after each call.
-use Rattle.std.proofs.Common.{◌≡◌, inl, inr, ℕ, ◌<◌, ◌≤◌, ◌+◌, ◌-◌, Bool, true, false, not, ◌&&◌, ◌||◌, ◌==◌, cond, Some, None, List, [], ◌∷◌, ◌++◌, Contains, ap, ◌∙◌, arith, zero, suc}
+use Rattle.std.proofs.Common.{◌≡◌, ◌≢◌, inl, inr, ℕ, ◌<◌, ◌≤◌, ◌+◌, ◌-◌, Bool, true, false, not, ◌&&◌, ◌||◌, ◌==◌, cond, Some, None, List, [], ◌∷◌, ◌++◌, Contains, ap, ◌∙◌, arith, zero, suc}
 use Rattle.std.proofs.lemmas.Bool.{cases_lt, cases_eq, not-true, not-false}
 use Rattle.std.proofs.lemmas.Bool.Decides.{nat_tests}
 use Rattle.std.proofs.lemmas.List.Elements.{Contains-append_left, Contains-append_right, Contains-append_cases}
 use Rattle.value_ids.specs.declared.pool.InHand.{InHand}
-use Rattle.value_ids.specs.Ids.{Pool, IsPool, ids_from, ids_of, is_held, is_in_use, first_free_of, first_free_id, id_after}
-use Rattle.list_facts.proofs.Members.{none_in_nil, cases_in, first_in, later_in, found_in, none_passes, find-append_some, find-append_none}
+use Rattle.value_ids.specs.Ids.{Pool, IsPool, ids_from, ids_of, is_held, is_in_use, first_free_of, first_free_id, id_after, released}
+use Rattle.list_facts.proofs.Members.{none_in_nil, cases_in, first_in, later_in, found_in, none_passes, held_by_filter, find-append_some, find-append_none}
 
 -- so many ids are one and the rest
-pub ids_step : (id end : ℕ) → id < end → ids_from id (end - id) ≡ id ∷ ids_from (id + 1) (end - (id + 1))
+ids_step : (id end : ℕ) → id < end → ids_from id (end - id) ≡ id ∷ ids_from (id + 1) (end - (id + 1))
 ids_step id end below = let one_more : end - id ≡ suc (end - (id + 1)) = omega (arith, below) in ap (ids_from id) one_more
 
-pub ids_over : (id end : ℕ) → end ≤ id → ids_from id (end - id) ≡ []
-ids_over id end past = let none : end - id ≡ 0 = omega (arith, past) in ap (ids_from id) none
-
--- the first free of some ids is the first, or that of the rest
-pub free_here : (used : ℕ → Bool) (in_hand : List InHand) (table id end : ℕ) → id < end → is_in_use used in_hand table id ≡ false → first_free_of used in_hand table (ids_from id (end - id)) ≡ Some id
-free_here used in_hand table id end below free =
-    ap (first_free_of used in_hand table) (ids_step id end below) ∙ ap (λ b. cond (not b) (Some id) (first_free_of used in_hand table (ids_from (id + 1) (end - (id + 1))))) free
-
+-- the first free of some ids is that of the rest where the first is in use
 pub free_later : (used : ℕ → Bool) (in_hand : List InHand) (table id end : ℕ) → id < end → is_in_use used in_hand table id ≡ true → first_free_of used in_hand table (ids_from id (end - id)) ≡ first_free_of used in_hand table (ids_from (id + 1) (end - (id + 1)))
 free_later used in_hand table id end below taken =
     ap (first_free_of used in_hand table) (ids_step id end below) ∙ ap (λ b. cond (not b) (Some id) (first_free_of used in_hand table (ids_from (id + 1) (end - (id + 1))))) taken
-
-pub free_nowhere : (used : ℕ → Bool) (in_hand : List InHand) (table id end : ℕ) → end ≤ id → first_free_of used in_hand table (ids_from id (end - id)) ≡ None
-free_nowhere used in_hand table id end past = ap (first_free_of used in_hand table) (ids_over id end past)
 
 -- the first free id of a pool is found from the counter on, or else among those below it
 pub free_above : (used : ℕ → Bool) (pool : Pool) (table id : ℕ) → first_free_of used pool.in_hand table (ids_from pool.next (pool.high + 1 - pool.next)) ≡ Some id → first_free_id used pool table ≡ Some id
@@ -80,3 +70,7 @@ after_within pool id sound at_least at_most = (grind (arith, nat_tests, sound.fr
 pub held_after : (in_hand : List InHand) (new : InHand) (table id : ℕ) → is_held (in_hand ++ new ∷ []) table id ≡ (is_held in_hand table id || ((new.table == table) && (new.id == id)))
 held_after [] new table id = grind arith
 held_after (held ∷ rest) new table id = grind (arith, held_after rest new table id)
+
+-- and it stays in hand where another session gives up its ids
+pub held_released : (in_hand : List InHand) (held : InHand) (session : ℕ) → held.session ≢ session → Contains in_hand held → Contains (released in_hand session) held
+held_released in_hand held session other is = held_by_filter (λ (h : InHand). not (h.session == session)) in_hand held is (grind (arith, nat_tests, other))

@@ -104,7 +104,7 @@ fn hold(in_hand: &mut Vec<InHand>, new: InHand) -> Result<(), AllocError>
 
 impl IdPool {
     /// A pool of the ids from `low` to `high`, both included, with the counter at `low` and none in hand.
-    /// It takes no memory yet.
+    /// `low` is 16,384 or more, and `high` not below it. It takes no memory yet.
     pub fn new(alloc: Global, low: u32, high: u32) -> Self
         requires least { 16384 ≤ low }
         requires ordered { low ≤ high }
@@ -123,7 +123,8 @@ impl IdPool {
     /// for the table. It is then in hand, and the counter stands after it.
     ///
     /// # Errors
-    /// `NoValueId` comes exactly where there is none. After each error the pool is as before.
+    /// `NoValueId` comes exactly where there is none; `in_use` is the number of the pool's ids, each of which
+    /// is then in use for the table. `Memory` is for want of memory. After each error the pool is as before.
     pub fn draw<T: IdTest>(&mut self, table: u16, session: u16, test: &T) -> Result<u32, DrawFault>
         ensures id { IfOk result (λ id. first_free_id (T.is_used test.now) self.old table ≡ Some id) }
         ensures taken { IfOk result (λ id. self.new ≡ record self.old { next = id_after self.old id; in_hand = self.old.in_hand ++ (record { table = table; session = session; id = id }) ∷ [] }) }

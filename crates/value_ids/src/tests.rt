@@ -21,11 +21,24 @@ fn ids_are_drawn_in_turn_and_given_up(rt: HostRuntime) {
     let mut pool = IdPool::new(rt.alloc(), 16384, 16385);
     assert!(rt; pool.draw(1, 1, &none) == Ok(16384));
     assert!(rt; pool.draw(1, 1, &none) == Ok(16385));
-    assert!(rt; pool.draw(1, 2, &none) == Err(DrawFault::NoValueId { in_use: 2 }));
-    // What is in hand for one table is free for another.
-    assert!(rt; pool.draw(2, 2, &none) == Ok(16384));
+    assert!(rt; pool.draw(1, 1, &none) == Err(DrawFault::NoValueId { in_use: 2 }));
     pool.release(1);
-    assert!(rt; pool.draw(2, 1, &none) == Ok(16385) && pool.draw(2, 1, &none).is_err());
+    assert!(rt; pool.draw(1, 1, &none) == Ok(16384));
+}
+
+#[test]
+fn an_id_is_in_hand_for_its_table_alone(rt: HostRuntime) {
+    let none = Used(&[]);
+    let mut pool = IdPool::new(rt.alloc(), 16384, 16385);
+    assert!(rt; pool.draw(1, 1, &none) == Ok(16384));
+    assert!(rt; pool.draw(1, 1, &none) == Ok(16385));
+    // No other session draws it for the table, and for another table it is free.
+    assert!(rt; pool.draw(1, 2, &none) == Err(DrawFault::NoValueId { in_use: 2 }));
+    assert!(rt; pool.draw(2, 2, &none) == Ok(16384));
+    // A session gives up its own ids, and leaves those of others in hand.
+    pool.release(1);
+    assert!(rt; pool.draw(2, 1, &none) == Ok(16385));
+    assert!(rt; pool.draw(2, 1, &none) == Err(DrawFault::NoValueId { in_use: 2 }));
     assert!(rt; pool.draw(1, 1, &none) == Ok(16384));
 }
 

@@ -6,5 +6,5 @@ use Rattle.toast_store.specs.Fetches.{Fetching}
 use Rattle.toast_store.proofs.Walked.{begun}
 use Rattle.toast_store.proofs.fetch_tests.begin.Goals as goal
 
-pub returns : goal.returns
-returns g c = begun c.unpin.new.self.index _ _ _ _ 5 (ap (λ (f : Fetching). f.walk) c.in_ok-fetch.ensures.fetch) (subst (λ (s : Store). pin_of s.index.pins 5 ≡ None) (sym c.unpin.ensures.dropped) (pin_dropped c.args.store.now.index.pins 5))
+pub returns-clause-ready : goal.returns-clause-ready
+returns-clause-ready g c = begun c.unpin.new.self.index _ _ _ _ 5 (ap (λ (f : Fetching). f.walk) c.in_ok-fetch.ensures.fetch) (subst (λ (s : Store). pin_of s.index.pins 5 ≡ None) (sym c.unpin.ensures.dropped) (pin_dropped c.args.store.now.index.pins 5))

@@ -4,13 +4,18 @@ use Rattle.toast_store.specs.Walks.{IsUnderWay}
 use Rattle.toast_store.specs.Fetches.{Fetching}
 use Rattle.toast_store.specs.Stores.{Store}
 use Rattle.toast_store.proofs.Walked.{steps_taken}
-use Rattle.toast_store.proofs.Outcomes.{cause_taken, same_taken, same_asked, with_chunk_walk}
+use Rattle.toast_store.proofs.Outcomes.{cause_taken, due_taken, same_taken, same_asked, with_chunk_walk}
 use Rattle.toast_store.proofs.fetch.Fetch.take.Goals as goal
 
 pub returns-in_err-read-in-Some-clause-cause : goal.returns-in_err-read-in-Some-clause-cause
 returns-in_err-read-in-Some-clause-cause c =
     let p = err_from_is_err_and c.from_residual.result c.from_residual.ensures.1 in
     rw (p.1, p.2) (cause_taken c.args.store.now _ c.args.self.now c.in-Some.entry _ c.self.view_is (sym c.in-Some.ensures.entry) c.in_err-read-in-Some.ensures.cause)
+
+pub returns-in_err-read-in-Some-clause-refused : goal.returns-in_err-read-in-Some-clause-refused
+returns-in_err-read-in-Some-clause-refused c =
+    let p = err_from_is_err_and c.from_residual.result c.from_residual.ensures.1 in
+    rw (p.1, p.2) (due_taken c.args.store.now _ c.args.self.now c.in-Some.entry _ c.self.view_is (sym c.in-Some.ensures.entry) c.in_err-read-in-Some.ensures.refused)
 
 pub returns-in_ok-read-in-Some-clause-same : goal.returns-in_ok-read-in-Some-clause-same
 returns-in_ok-read-in-Some-clause-same c =

@@ -85,7 +85,7 @@ StandsAt store ids save (Putting value_id seq) = HasIndexed store ids save value
 StandsAt store ids save (Indexing value_id seq tid) = HasIndexed store ids save value_id seq × HasPut store save value_id seq tid
 StandsAt store ids save Saved = ⊤
 
--- the same where it stands
+-- what a save relies on where it stands
 abbrev pub SaveStands : Store → Pool → Saving → Type 0
 SaveStands store ids save = StandsAt store ids save save.stage
 
@@ -161,14 +161,14 @@ abbrev pub IsSaveCause : Store → Pool → Saving → DrawFault → Type 0
 IsSaveCause store ids save (NoValueId in_use) = (save.stage ≡ Drawing) × IsCause (is_used store) ids save.table (NoValueId in_use)
 IsSaveCause store ids save Memory = ⊤
 
--- how many steps are left: the draw, and two for each piece
+-- how many steps are left, by where a save stands: the draw, and two for each piece
 abbrev pub steps_at : ℕ → SaveStage → ℕ
 steps_at count Drawing = 1 + 2 * count
 steps_at count (Putting value_id seq) = 2 * (count - seq)
 steps_at count (Indexing value_id seq tid) = 2 * (count - seq) - 1
 steps_at count Saved = 0
 
--- the same where it stands
+-- how many steps of a save are left
 abbrev pub steps_left : Saving → ℕ
 steps_left save = steps_at (piece_count (length save.value)) save.stage
 

@@ -75,14 +75,14 @@ pub record IsOfWalk (walk : Walking) (e : Entry) : Type 0 where
 abbrev pub wanted_by : Walking → Option Entry → List Entry → List Entry
 wanted_by walk after entries = wanted_of walk.value_id walk.first (walk.end - 1) after entries
 
--- the entries that a walk still takes, where the index stays as it is
+-- the entries that a walk still takes, by where it stands, where the index stays as it is
 abbrev pub ahead_at : Walking → List Entry → WalkStage → List Entry
 ahead_at walk entries Empty = []
 ahead_at walk entries (Asking after) = wanted_by walk after entries
 ahead_at walk entries (Reading batch at) = drop at batch.entries ++ (if batch.more then wanted_by walk (slice_get batch.entries (length batch.entries - 1)) entries else [])
 ahead_at walk entries Over = []
 
--- the same where it stands
+-- the entries that a walk still takes from where it stands
 abbrev pub ahead : List Entry → Walking → List Entry
 ahead entries walk = ahead_at walk entries walk.stage
 
@@ -128,7 +128,7 @@ index_after index walk (Asking after) = after_batch index walk.session (wanted_b
 index_after index walk (Reading batch at) = if nat_lt (at + 1) (length batch.entries) then index else record index { pins = without_pin index.pins walk.session }
 index_after index walk Over = index
 
--- the same from where the walk stands
+-- the index after a walk's next step
 abbrev pub index_walked : Index → Walking → Index
 index_walked index walk = index_after index walk walk.stage
 
@@ -143,6 +143,6 @@ steps_at walk entries (Asking after) = asks_left (wanted_by walk after entries)
 steps_at walk entries (Reading batch at) = length batch.entries - at + (if batch.more then asks_left (wanted_by walk (slice_get batch.entries (length batch.entries - 1)) entries) else 0)
 steps_at walk entries Over = 0
 
--- the same where the walk stands
+-- how many steps of a walk are left at most
 abbrev pub steps_left : List Entry → Walking → ℕ
 steps_left entries walk = steps_at walk entries walk.stage

@@ -112,11 +112,11 @@ first_places script = replicate (length script.sessions) at_start
 pub record Follows (script : Script) (journal : List JournalEntry) : Type 0 where
   pub scheduled : List TurnMade
   pub finishing : List TurnMade
-  -- 1: the entries of the turns, in order, are the journal
+  -- the entries of the turns, in order, are the journal
   pub entries : entries_of (scheduled ++ finishing) ≡ journal
-  -- 2: each is a turn
+  -- each is a turn
   pub each : AreTurns script (first_run script) (first_places script) (scheduled ++ finishing)
-  -- 4: their sessions are those of the schedule's items, and then of a finish
+  -- their sessions are those of the schedule's items, and then of a finish
   pub schedule : AreOfItems (items_of script.schedule) scheduled
   pub finish : Finishes script (after_turns (first_places script) scheduled) finishing
 

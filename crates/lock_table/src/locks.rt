@@ -1,6 +1,7 @@
 //! The locks of all sessions.
 
-ghost use Rattle.std.specs.Prelude.{◌≡◌, ◌≤◌, ◌^◌, [], length, None, IfOk, OnErr, OnOk};
+ghost use Rattle.std.specs.Prelude.{◌≡◌, ◌+◌, ◌≤◌, ◌^◌, [], length, replicate, None, IfOk, OnErr, OnOk};
+ghost use Rattle.lock_table.specs.Held.{nothing};
 ghost use Rattle.lock_table.specs.Locks.{after_asking, after_end, busy_with, granted, locked_by, row_lock, table_lock, with_locks, IsFirstInWay};
 ghost use Rattle.lock_table.specs.Modes.{mode_of};
 
@@ -83,6 +84,20 @@ impl Locks {
         Locks {
             sessions: Vec::new(alloc),
         }
+    }
+
+    /// No session holds anything, and those up to this number have their places, so that none is added
+    /// for a lock of theirs.
+    pub fn for_sessions(alloc: Global, sessions: u16) -> Result<Self, AllocError>
+        ensures { IfOk result (λ locks. locks ≡ replicate (sessions + 1) nothing) }
+    {
+        let mut places = Vec::new(alloc);
+        for _ in 0..sessions {
+            places.push(SessionLocks::new(alloc))?;
+        }
+        // Place 0 is nobody's.
+        places.push(SessionLocks::new(alloc))?;
+        Ok(Locks { sessions: places })
     }
 
     /// Adds a lock to those of a session.

@@ -33,6 +33,17 @@ fn a_row_is_claimed_by_one_session(rt: HostRuntime) {
 }
 
 #[test]
+fn sessions_with_and_without_a_place(rt: HostRuntime) -> Result<(), std::alloc::AllocError> {
+    let mut locks = Locks::for_sessions(rt.alloc(), 2)?;
+    assert!(rt; locks.claim(2, 1, 5) == Ok(()));
+    assert!(rt; locks.claim(3, 1, 5) == Err(ClaimFault::Busy { session: 2 }));
+    locks.end(2);
+    assert!(rt; locks.claim(3, 1, 5) == Ok(()));
+    assert!(rt; locks.claim(1, 1, 5) == Err(ClaimFault::Busy { session: 3 }));
+    Ok(())
+}
+
+#[test]
 fn keys_at_both_ends(rt: HostRuntime) {
     let mut locks = Locks::new(rt.alloc());
     for (session, key) in [(1, i64::MIN), (2, i64::MAX), (3, 0), (4, -1)] {

@@ -1,5 +1,6 @@
 -- What a list holds, first element by first element; what a filter leaves of it and what a search finds in it.
-use Rattle.std.proofs.Common.{◌≡◌, ◌⊎◌, inl, inr, Bool, true, false, ◌&&◌, cond, Some, None, List, [], ◌∷◌, ◌++◌, filter, find, Contains, refl, sym, ap, ◌∙◌, arith, zero, suc}
+use Rattle.std.proofs.Common.{◌≡◌, ◌⊎◌, inl, inr, Bool, true, false, ◌&&◌, cond, Option, Some, None, List, map, [], ◌∷◌, ◌++◌, filter, find, Contains, refl, sym, ap, ◌∙◌, arith, zero, suc}
+use Rattle.std.specs.List.{filter_map, cons_option}
 use Rattle.std.proofs.lemmas.Option.{none-some}
 
 -- an empty list holds nothing
@@ -17,6 +18,34 @@ first_in y ys x is = (zero, omega arith, is)
 
 pub later_in : {X : Type 0} (y : X) (ys : List X) (x : X) → Contains ys x → Contains (y ∷ ys) x
 later_in y ys x held = (suc held.0, omega (arith, held.1), held.2)
+
+-- what a list holds, mapped, is held by the list that is mapped
+pub map_in : {X Y : Type 0} (f : X → Y) (xs : List X) (x : X) → Contains xs x → Contains (map f xs) (f x)
+map_in f [] x held = absurd (none_in_nil x held)
+map_in f (y ∷ ys) x held = elim (cases_in y ys x held) [
+  | inl is ↦ first_in (f y) (map f ys) (f x) (ap f is)
+  | inr later ↦ later_in (f y) (map f ys) (f x) (map_in f ys x later)
+]
+
+-- and what that list holds comes from what the other one holds
+pub from_map : {X Y : Type 0} (f : X → Y) (xs : List X) (y : Y) → Contains (map f xs) y → (x : X) × Contains xs x × (f x ≡ y)
+from_map f [] y held = absurd (none_in_nil y held)
+from_map f (x ∷ xs) y held = elim (cases_in (f x) (map f xs) y held) [
+  | inl is ↦ (x, first_in x xs x refl, is)
+  | inr later ↦ let rest = from_map f xs y later in (rest.0, later_in x xs rest.0 rest.1, rest.2)
+]
+
+-- so does what is held where only some are mapped
+pub from_chosen : {X Y : Type 0} (f : X → Option Y) (xs : List X) (y : Y) → Contains (filter_map f xs) y → (x : X) × Contains xs x × (f x ≡ Some y)
+from_chosen f [] y held = absurd (none_in_nil y held)
+from_chosen {X} {Y} f (x ∷ xs) y held = by_value (f x) refl held (from_chosen f xs y)
+  where
+    by_value : (o : Option Y) → f x ≡ o → Contains (cons_option o (filter_map f xs)) y → (Contains (filter_map f xs) y → (z : X) × Contains xs z × (f z ≡ Some y)) → (z : X) × Contains (x ∷ xs) z × (f z ≡ Some y)
+    by_value None is held' rest = let later = rest held' in (later.0, later_in x xs later.0 later.1, later.2)
+    by_value (Some w) is held' rest = elim (cases_in w (filter_map f xs) y held') [
+      | inl same ↦ (x, first_in x xs x refl, is ∙ ap Some same)
+      | inr more ↦ let later = rest more in (later.0, later_in x xs later.0 later.1, later.2)
+    ]
 
 -- what a filter holds passes, and was held
 pub filter_holds : {X : Type 0} (p : X → Bool) (xs : List X) (x : X) → Contains (filter p xs) x → Contains xs x × (p x ≡ true)

@@ -60,9 +60,9 @@ data Spelled (storage : Storage) (at : ℕ) (value : List ℕ) : Type 0 where
   as_plain : IsAligned storage (length value) → inline_bytes storage at value ≡ padding at ++ plain_form value → Spelled storage at value
 
 spelled : (storage : Storage) (at : ℕ) (value : List ℕ) → Spelled storage at value
-spelled Plain at value = as_plain tt refl
+spelled Plain at value = as_plain refl refl
 spelled External at value = elim (cases_lt 126 (length value)) [
-  | inl long ↦ let test : nat_le (length value) longest_short ≡ false = grind (arith, nat_tests) in as_plain long (rw test refl)
+  | inl long ↦ let test : nat_le (length value) longest_short ≡ false = grind (arith, nat_tests) in as_plain test (rw test refl)
   | inr few ↦ let test : nat_le (length value) longest_short ≡ true = grind (arith, nat_tests) in as_short refl few (rw test refl)
 ]
 
@@ -165,10 +165,7 @@ refuse_even storage at rest even no_plain no_compressed = (
 
 -- a datum with a header of four bytes behind the zeros is the cell
 pub plain_front : (storage : Storage) (at : ℕ) (value after : List ℕ) → IsAligned storage (length value) → padding at ++ (plain_form value ++ after) ≡ cell_bytes storage at (Inline value) ++ after
-plain_front Plain at value after kind = sym (append_assoc (padding at) (plain_form value) after)
-plain_front External at value after kind =
-    let test : nat_le (length value) longest_short ≡ false = grind (arith, nat_tests) in
-    rw test (sym (append_assoc (padding at) (plain_form value) after))
+plain_front storage at value after kind = rw kind (sym (append_assoc (padding at) (plain_form value) after))
 
 -- where an inline value ends
 pub inline_end_of : (storage : Storage) (at : ℕ) (value : List ℕ) → at + length (inline_bytes storage at value) ≡ inline_end storage at (length value)

@@ -168,7 +168,7 @@ tuple_front schema s few has =
     let len : length ws ≡ length s.cells = length-map s.cells cell_width in
     take_at (header ws) (key_bytes s.key ++ data_from 8 schema s.cells) (data_start ws) (length-header ws (omega (arith, has.one_each)))
 
-bits_below : (key : ℤ) → FitsSigned w64 key → cast_unsigned w64 key < 2 ^ 64
+pub bits_below : (key : ℤ) → FitsSigned w64 key → cast_unsigned w64 key < 2 ^ 64
 bits_below key fits = omega (arith, ints)
 
 one_key : (a b : ℤ) → FitsSigned w64 a → FitsSigned w64 b → key_bytes a ≡ key_bytes b → a ≡ b
@@ -180,15 +180,16 @@ one_key a b f g e =
 abbrev made : ℤ → List Cell → Stored
 made key cells = record { key = key; cells = cells }
 
-same_stored : (s t : Stored) → s.key ≡ t.key → s.cells ≡ t.cells → s ≡ t
+pub same_stored : (s t : Stored) → s.key ≡ t.key → s.cells ≡ t.cells → s ≡ t
 same_stored s t key cells =
     let same : made s.key s.cells ≡ made t.key t.cells = cc in same
 
-front_key : (schema : List Storage) (s : Stored) → length schema ≤ 8 → HasTuple schema s → take 8 (drop (data_start (cell_widths s.cells)) (tuple schema s)) ≡ key_bytes s.key
-front_key schema s few has =
+-- where its key stands
+pub front_key : (schema : List Storage) (s : Stored) → length schema ≤ 8 → length s.cells ≡ length schema → take 8 (drop (data_start (cell_widths s.cells)) (tuple schema s)) ≡ key_bytes s.key
+front_key schema s few all =
     let ws = cell_widths s.cells in
     let len : length ws ≡ length s.cells = length-map s.cells cell_width in
-    ap (take 8) (drop_at (header ws) (key_bytes s.key ++ data_from 8 schema s.cells) (data_start ws) (length-header ws (omega (arith, has.one_each))))
+    ap (take 8) (drop_at (header ws) (key_bytes s.key ++ data_from 8 schema s.cells) (data_start ws) (length-header ws (omega (arith, all))))
     ∙ take_at (key_bytes s.key) (data_from 8 schema s.cells) 8 refl
 
 -- a row with the same tuple and the same cells has the same key
@@ -196,7 +197,7 @@ pub one_row : (schema : List Storage) (s t : Stored) → length schema ≤ 8 →
 one_row schema s t few has others cells same =
     let places : data_start (cell_widths s.cells) ≡ data_start (cell_widths t.cells) = ap (λ (x : List Cell). data_start (cell_widths x)) cells in
     let keys : key_bytes s.key ≡ key_bytes t.key =
-    sym (front_key schema s few has) ∙ ap (λ (n : ℕ). take 8 (drop n (tuple schema s))) places ∙ ap (λ (x : List ℕ). take 8 (drop (data_start (cell_widths t.cells)) x)) same ∙ front_key schema t few others in
+    sym (front_key schema s few has.one_each) ∙ ap (λ (n : ℕ). take 8 (drop n (tuple schema s))) places ∙ ap (λ (x : List ℕ). take 8 (drop (data_start (cell_widths t.cells)) x)) same ∙ front_key schema t few others.one_each in
     same_stored s t (one_key s.key t.key has.key others.key keys) cells
 
 -- ---- the size

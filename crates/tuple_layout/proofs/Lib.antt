@@ -7,3 +7,4 @@ pub mod Exclusive
 pub mod HeaderRead
 pub mod Judged
 pub mod PlaceLemmas
+pub mod StoredRowLemmas

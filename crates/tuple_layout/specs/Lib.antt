@@ -5,3 +5,4 @@ pub mod Schemas
 pub mod Tuples
 pub mod Faults
 pub mod Reading
+pub mod StoredRows

@@ -1,25 +1,23 @@
 -- What the private readers of a column's data answer.
-use Rattle.std.specs.Prelude.{◌≡◌, ℕ, ◌+◌, ◌<◌, ◌≤◌, Bool, true, List, ◌++◌, length, drop, Option, slice_index_or}
+use Rattle.std.specs.Prelude.{◌≡◌, ℕ, ◌+◌, ◌<◌, ◌≤◌, Bool, true, false, List, ◌++◌, length, drop, Option, slice_index_or}
 use Rattle.std.specs.List.{All}
 use Rattle.external_pointer.specs.Spelling.{IsInRange, pointer_bytes}
 use Rattle.external_pointer.specs.Fault.{IsFault as IsPointerFault}
 use Rattle.external_pointer.specs.declared.external.Pointer.{Pointer}
 use Rattle.external_pointer.specs.declared.fault.PointerFault.TheVariants.{Compressed as CompressedOut}
 use Rattle.tuple_layout.specs.declared.Storage.{Storage}
-use Rattle.tuple_layout.specs.declared.Storage.TheVariants.{Plain, External}
 use Rattle.tuple_layout.specs.declared.read_cell.CellFault.{CellFault}
 use Rattle.tuple_layout.specs.declared.read_cell.CellFault.TheVariants.{Compressed, Bad, Memory}
 use Rattle.tuple_layout.specs.declared.cell.Cell.{Cell}
 use Rattle.tuple_layout.specs.declared.fault.TupleFault.{TupleFault}
 use Rattle.tuple_layout.specs.declared.fault.TupleFault.TheVariants.{Short, BadHeader, Compressed as CompressedAt, BadColumn, Rest, Memory as OutOfMemory}
-use Rattle.tuple_layout.specs.Sizes.{longest_short}
+use Rattle.tuple_layout.specs.Sizes.{is_short}
 use Rattle.tuple_layout.specs.Tuples.{cell_width, cell_bytes, data_from, is_there, HasForm}
 use Rattle.tuple_layout.specs.Faults.{NoneStands, IsCompressed, is_present, end_of, next_storage}
 
 -- an inline value of so many bytes has a header of four bytes
 abbrev pub IsAligned : Storage → ℕ → Type 0
-IsAligned Plain n = Unit {0}
-IsAligned External n = longest_short < n
+IsAligned storage n = is_short storage n ≡ false
 
 -- the bytes are the pointer to a compressed value
 pub record IsCompressedPointer (bytes : List ℕ) : Type 0 where

@@ -5,6 +5,7 @@ use Rattle.std.specs.List.{list_any, enumerate_from}
 use Rattle.std.specs.Option.{option_map_or}
 use Rattle.tuple_layout.specs.declared.Storage.{Storage}
 use Rattle.tuple_layout.specs.declared.Storage.TheVariants.{Plain, External}
+use Rattle.tuple_layout.specs.declared.size.TheConstants.{LARGEST_TUPLE}
 use Rattle.tuple_layout.specs.Places.{Row}
 
 -- what a pointer takes, in bytes
@@ -21,7 +22,7 @@ least_out = 21
 
 -- the largest tuple that fits on a page
 abbrev pub largest_tuple : ℕ
-largest_tuple = 8160
+largest_tuple = LARGEST_TUPLE
 
 -- how the value of a column stands in a tuple
 pub data Width : Type 0 where
@@ -52,10 +53,14 @@ is_missing Outside = false
 abbrev pub aligned : ℕ → ℕ
 aligned at = (at + 3) / 4 * 4
 
--- where an inline value of n bytes ends: one of a column that is not PLAIN that is short has a header of one byte and is not aligned, any other has one of 4 bytes
+-- whether an inline value of n bytes has a header of one byte and is not aligned: it is short, and its column is not PLAIN; any other has a header of 4 bytes
+abbrev pub is_short : Storage → ℕ → Bool
+is_short Plain n = false
+is_short External n = nat_le n longest_short
+
+-- where an inline value of n bytes ends
 abbrev pub inline_end : Storage → ℕ → ℕ → ℕ
-inline_end Plain at n = aligned at + 4 + n
-inline_end External at n = if nat_le n longest_short then at + 1 + n else aligned at + 4 + n
+inline_end storage at n = if is_short storage n then at + 1 + n else aligned at + 4 + n
 
 -- where a column's data end, if the data before them end at this place; a pointer is not aligned
 abbrev pub column_end : Storage → ℕ → Width → ℕ
@@ -77,11 +82,15 @@ header_size columns has_null = (23 + (if has_null then (columns + 7) / 8 else 0)
 abbrev pub size : List Storage → List Width → ℕ
 size schema ws = header_size (length schema + 1) (list_any is_missing ws) + data_end_from 8 schema ws
 
--- whether a value may be stored out of line: its column is EXTERNAL and it is long enough
+-- whether a value of n bytes may be stored out of line: its column is EXTERNAL and it is long enough
+abbrev pub may_go_out : Storage → ℕ → Bool
+may_go_out Plain n = false
+may_go_out External n = nat_le least_out n
+
+-- whether a value, if it is not null, may be stored out of line
 abbrev pub is_eligible : Storage → Option (List ℕ) → Bool
-is_eligible Plain value = false
-is_eligible External None = false
-is_eligible External (Some bytes) = nat_le least_out (length bytes)
+is_eligible storage None = false
+is_eligible storage (Some bytes) = may_go_out storage (length bytes)
 
 -- whether the value of a column, from 1, may be stored out of line
 abbrev pub is_eligible_column : List Storage → Row → ℕ → Bool

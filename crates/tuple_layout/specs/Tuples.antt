@@ -1,17 +1,16 @@
 -- A stored row as the bytes of a tuple
 -- (PostgreSQL, Database Physical Storage: "Database Page Layout", "Table Row Layout", and "TOAST").
-use Rattle.std.specs.Prelude.{◌≡◌, ℕ, ℤ, ◌+◌, ◌-◌, ◌*◌, ◌/◌, ◌^◌, ◌<◌, ◌≤◌, Bool, true, false, not, List, [], ◌∷◌, ◌++◌, map, take, length, replicate, nat_le, if◌then◌else◌}
+use Rattle.std.specs.Prelude.{◌≡◌, ℕ, ℤ, ◌+◌, ◌-◌, ◌*◌, ◌/◌, ◌^◌, ◌<◌, ◌≤◌, Bool, true, false, not, List, [], ◌∷◌, ◌++◌, map, take, length, replicate, if◌then◌else◌}
 use Rattle.std.specs.List.{list_any, All}
 use Rattle.std.specs.Int.{w16, w64, to_le_bytes, cast_unsigned}
 use Rattle.std.specs.Int.RustNames.{FitsSigned}
 use Rattle.varlena_form.specs.Spelling.{short_form, plain_form}
 use Rattle.external_pointer.specs.Spelling.{IsInRange, pointer_bytes}
 use Rattle.tuple_layout.specs.declared.Storage.{Storage}
-use Rattle.tuple_layout.specs.declared.Storage.TheVariants.{Plain, External}
 use Rattle.tuple_layout.specs.declared.cell.Cell.{Cell}
 use Rattle.tuple_layout.specs.declared.cell.Cell.TheVariants.{Null, Inline, Out}
 use Rattle.tuple_layout.specs.declared.cell.Stored.{Stored}
-use Rattle.tuple_layout.specs.Sizes.{Width, Missing, Within, Outside, is_missing, longest_short, aligned, column_end, header_size, size}
+use Rattle.tuple_layout.specs.Sizes.{Width, Missing, Within, Outside, is_missing, is_short, aligned, column_end, header_size, size}
 
 -- how a cell stands in a tuple
 abbrev pub cell_width : Cell → Width
@@ -41,8 +40,7 @@ padding at = replicate (aligned at - at) 0
 
 -- an inline value, if the data before it end at this place
 abbrev pub inline_bytes : Storage → ℕ → List ℕ → List ℕ
-inline_bytes Plain at value = padding at ++ plain_form value
-inline_bytes External at value = if nat_le (length value) longest_short then short_form value else padding at ++ plain_form value
+inline_bytes storage at value = if is_short storage (length value) then short_form value else padding at ++ plain_form value
 
 -- a cell, if the data before it end at this place
 abbrev pub cell_bytes : Storage → ℕ → Cell → List ℕ

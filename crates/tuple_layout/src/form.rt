@@ -6,7 +6,7 @@ ghost use Rattle.tuple_layout.specs.Tuples.{IsWithinLimits, cell_bytes, inline_b
 
 use crate::cell::{Cell, Stored};
 use crate::header::header_of;
-use crate::size::{KEY_SIZE, LONGEST_SHORT, POINTER_SIZE, column_end, padding, row_size};
+use crate::size::{KEY_SIZE, POINTER_SIZE, column_end, is_short, padding, row_size};
 use crate::{Bytes, Schema, Storage};
 use external_pointer::write_pointer;
 use std::alloc::{AllocError, Global};
@@ -30,7 +30,7 @@ fn put_inline(
     requires { length value.now ≤ 65536 }
     ensures { OnOk result (out.new.items ≡ out.old.items ++ inline_bytes storage at value.now) }
 {
-    if storage == Storage::External && value.len() <= LONGEST_SHORT {
+    if is_short(storage, value.len()) {
         write_short(value, out)?;
         return Ok(());
     }
@@ -70,10 +70,10 @@ fn put_key(key: &i64, out: &mut Vec<u8>) -> Result<(), AllocError>
 
 /// Appends the tuple of a stored row.
 fn put_tuple(schema: &Schema, stored: &Stored, out: &mut Vec<u8>) -> Result<(), AllocError>
-    requires one_each { length stored.now.cells ≡ length schema.now }
+    requires one_each { length stored.now.cells ≡ length schema.now.storages }
     requires limits { All IsWithinLimits stored.now.cells }
-    ensures tuple { OnOk result (out.new.items ≡ out.old.items ++ tuple schema.now stored.now) }
-    ensures few { OnOk result (length schema.now ≤ 8) }
+    ensures tuple { OnOk result (out.new.items ≡ out.old.items ++ tuple schema.now.storages stored.now) }
+    ensures few { OnOk result (length schema.now.storages ≤ 8) }
 {
     let cells = stored.cells.as_slice();
     let storages = schema.storages();
@@ -90,10 +90,10 @@ fn put_tuple(schema: &Schema, stored: &Stored, out: &mut Vec<u8>) -> Result<(), 
 
 /// The tuple of a stored row, which has a cell for each column, in a buffer of its size.
 pub fn form_tuple(alloc: Global, schema: &Schema, stored: &Stored) -> Result<Bytes, AllocError>
-    requires one_each { length stored.now.cells ≡ length schema.now }
+    requires one_each { length stored.now.cells ≡ length schema.now.storages }
     requires limits { All IsWithinLimits stored.now.cells }
-    ensures tuple { IfOk result (λ bytes. bytes ≡ tuple schema.now stored.now) }
-    ensures size { IfOk result (λ bytes. length bytes ≡ row_size schema.now stored.now.cells) }
+    ensures tuple { IfOk result (λ bytes. bytes ≡ tuple schema.now.storages stored.now) }
+    ensures size { IfOk result (λ bytes. length bytes ≡ row_size schema.now.storages stored.now.cells) }
 {
     let size = row_size(schema, stored.cells.as_slice());
     let mut out = Vec::with_capacity(alloc, size)?;

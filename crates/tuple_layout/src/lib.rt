@@ -8,6 +8,7 @@ mod cell;
 mod fault;
 mod form;
 mod header;
+mod law;
 mod read;
 mod read_cell;
 mod size;
@@ -16,9 +17,12 @@ pub use cell::{Cell, CellList, Stored};
 pub use external_pointer::Pointer;
 pub use fault::TupleFault;
 pub use form::form_tuple;
+pub use law::stored_in_tuple;
 use list_facts::ListOf;
 pub use read::read_tuple;
-pub use size::{column_end, header_size, row_size};
+pub use size::{
+    KEY_SIZE, LARGEST_TUPLE, POINTER_SIZE, column_end, header_size, is_short, may_go_out, row_size,
+};
 use std::alloc::{AllocError, Global};
 use std::marker::Model;
 pub use toast_io::Bytes;
@@ -42,7 +46,7 @@ pub enum Storage {
     External,
 }
 
-/// The storages of a table's byte-string columns, of which there are 1 to 8.
+/// A table's columns: the storages of its byte-string columns, of which there are 1 to 8.
 #[derive(Debug, Drop)]
 pub struct Schema {
     storages: ListOf<Storage>,
@@ -52,13 +56,12 @@ pub struct Schema {
 pub type SchemaList = ListOf<Schema>;
 
 impl Model for Schema {
-    ghost use Rattle.std.specs.Prelude.{List, length};
-    ghost use Rattle.tuple_layout.specs.Schemas.{HasColumns};
-    ghost use Rattle.tuple_layout.specs.declared.Storage.{Storage};
+    ghost use Rattle.std.specs.Prelude.{length};
+    ghost use Rattle.tuple_layout.specs.Schemas.{HasColumns, TableSchema};
 
-    ghost Value = { List Storage };
+    ghost Value = { TableSchema };
 
-    ghost view = { λ schema. schema.storages };
+    ghost view = { λ schema. record { storages = schema.storages } };
 
     ghost invariant = { λ schema. HasColumns (length schema.storages) };
 }
@@ -85,7 +88,7 @@ impl From<AllocError> for SchemaFault {
 impl Schema {
     /// A table's schema, with its columns in this order.
     pub fn new(alloc: Global, storages: &[Storage]) -> Result<Schema, SchemaFault>
-        ensures ok { IfOk result (λ schema. schema ≡ storages.now) }
+        ensures ok { IfOk result (λ schema. schema ≡ record { storages = storages.now }) }
         ensures columns { IsOk result → HasColumns (length storages.now) }
         ensures count { (got : ℕ) → IsErrOf result (SchemaFault.Count got) → (got ≡ length storages.now) × ¬ (HasColumns got) }
         ensures memory { IsErrOf result SchemaFault.Memory → HasColumns (length storages.now) }
@@ -100,8 +103,8 @@ impl Schema {
 
     /// The storages, in the order of the columns.
     pub fn storages(&self) -> &[Storage]
-        ensures all { result.now ≡ self.now }
-        ensures columns { HasColumns (length self.now) }
+        ensures all { result.now ≡ self.now.storages }
+        ensures columns { HasColumns (length self.now.storages) }
     {
         self.storages.as_slice()
     }

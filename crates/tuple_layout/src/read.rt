@@ -1,10 +1,11 @@
 //! Reading a stored row from the bytes of a tuple.
 
-ghost use Rattle.std.specs.Prelude.{◌≡◌, ◌≢◌, ◌≤◌, ◌<◌, ◌+◌, ◌*◌, ◌^◌, ◌/◌, ◌%◌, ◌==◌, ℕ, length, drop, take, IfErr, IfOk};
+ghost use Rattle.std.specs.Prelude.{◌≡◌, ◌≢◌, ◌≤◌, ◌<◌, ◌+◌, ◌*◌, ◌^◌, ◌/◌, ◌%◌, ◌==◌, ℕ, length, drop, take, IfErr, IfOk, MatchResult, None, Some};
 ghost use Rattle.std.specs.Int.{w16, from_le_bytes};
 ghost use Rattle.tuple_layout.specs.Tuples.{HasTuple, key_bytes, tuple};
 ghost use Rattle.tuple_layout.specs.Faults.{IsFault, HasHeader, bitmap_in, end_of, is_present, start_in};
 ghost use Rattle.tuple_layout.specs.Reading.{HoldsFirst, IsColumn, IsColumnFault, IsColumnsFault};
+ghost use Rattle.tuple_layout.specs.StoredRows.{stored_in};
 ghost use Rattle.tuple_layout.specs.declared.cell.Stored.{Stored};
 ghost use Rattle.tuple_layout.specs.declared.fault.TupleFault.{TupleFault};
 
@@ -26,10 +27,10 @@ fn u16_at(bytes: &[u8], at: usize) -> u16
 
 /// Reads the header's numbers, and gives where the data begin, if there is a whole key.
 fn read_front(schema: &Schema, bytes: &[u8]) -> Result<usize, TupleFault>
-    ensures header { IfOk result (λ start. HasHeader schema.now bytes.now × (start ≡ start_in bytes.now)) }
+    ensures header { IfOk result (λ start. HasHeader schema.now.storages bytes.now × (start ≡ start_in bytes.now)) }
     ensures key { IfOk result (λ start. start + 8 ≤ length bytes.now) }
-    ensures fault { IfErr result (IsFault schema.now bytes.now) }
-    ensures few { length schema.now ≤ 8 }
+    ensures fault { IfErr result (IsFault schema.now.storages bytes.now) }
+    ensures few { length schema.now.storages ≤ 8 }
 {
     let columns = schema.storages().len() + 1;
     if bytes.len() < FIXED_HEADER_SIZE {
@@ -107,11 +108,11 @@ fn read_columns(
     body: &[u8],
 ) -> Result<(CellList, usize), TupleFault>
     requires { 8 ≤ length body.now }
-    ensures found { IfOk result (λ x. HoldsFirst schema.now bitmap body.now x.0 (drop x.1 body.now)) }
-    ensures all { IfOk result (λ x. length x.0 ≡ length schema.now) }
+    ensures found { IfOk result (λ x. HoldsFirst schema.now.storages bitmap body.now x.0 (drop x.1 body.now)) }
+    ensures all { IfOk result (λ x. length x.0 ≡ length schema.now.storages) }
     ensures few { IfOk result (λ x. length x.0 ≤ 8) }
-    ensures end { IfOk result (λ x. (x.1 ≡ end_of schema.now x.0) × (x.1 ≤ length body.now)) }
-    ensures fault { IfErr result (IsColumnsFault schema.now bitmap body.now) }
+    ensures end { IfOk result (λ x. (x.1 ≡ end_of schema.now.storages x.0) × (x.1 ≤ length body.now)) }
+    ensures fault { IfErr result (IsColumnsFault schema.now.storages bitmap body.now) }
 {
     let mut cells = CellList::new(alloc);
     let mut at = KEY_SIZE;
@@ -139,9 +140,9 @@ fn read_key(body: &[u8]) -> i64
 
 /// Reads the parts of a tuple from left to right.
 fn read_parts(alloc: Global, schema: &Schema, bytes: &[u8]) -> Result<Stored, TupleFault>
-    ensures found { IfOk result (λ stored. HasTuple schema.now stored × (bytes.now ≡ tuple schema.now stored)) }
-    ensures fault { IfErr result (IsFault schema.now bytes.now) }
-    ensures few { length schema.now ≤ 8 }
+    ensures found { IfOk result (λ stored. HasTuple schema.now.storages stored × (bytes.now ≡ tuple schema.now.storages stored)) }
+    ensures fault { IfErr result (IsFault schema.now.storages bytes.now) }
+    ensures few { length schema.now.storages ≤ 8 }
 {
     let start = read_front(schema, bytes)?;
     let (front, body) = bytes.split_at(start);
@@ -164,12 +165,15 @@ fn read_parts(alloc: Global, schema: &Schema, bytes: &[u8]) -> Result<Stored, Tu
 /// of any length.
 pub fn read_tuple(alloc: Global, schema: &Schema, bytes: &[u8]) -> Result<Stored, TupleFault>
     // What is read has these bytes, and what has these bytes is read: the round trip.
-    ensures found { IfOk result (λ stored. HasTuple schema.now stored × (bytes.now ≡ tuple schema.now stored)) }
-    ensures again { (stored : Stored) → HasTuple schema.now stored → bytes.now ≡ tuple schema.now stored → result ≢ Err TupleFault.Memory → result ≡ Ok stored }
+    ensures found { IfOk result (λ stored. HasTuple schema.now.storages stored × (bytes.now ≡ tuple schema.now.storages stored)) }
+    ensures again { (stored : Stored) → HasTuple schema.now.storages stored → bytes.now ≡ tuple schema.now.storages stored → result ≢ Err TupleFault.Memory → result ≡ Ok stored }
+
+    // The same by the function that finds the row in the bytes.
+    ensures row { MatchResult result (λ stored. stored_in schema.now.storages bytes.now ≡ Some stored) (λ f. f ≢ TupleFault.Memory → stored_in schema.now.storages bytes.now ≡ None) }
 
     // Each fault comes exactly where its check is the first that fails.
-    ensures fault { IfErr result (IsFault schema.now bytes.now) }
-    ensures fault_only { (f : TupleFault) → f ≢ TupleFault.Memory → IsFault schema.now bytes.now f → result ≢ Err TupleFault.Memory → result ≡ Err f }
+    ensures fault { IfErr result (IsFault schema.now.storages bytes.now) }
+    ensures fault_only { (f : TupleFault) → f ≢ TupleFault.Memory → IsFault schema.now.storages bytes.now f → result ≢ Err TupleFault.Memory → result ≡ Err f }
 {
     read_parts(alloc, schema, bytes)
 }

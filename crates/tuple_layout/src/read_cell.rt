@@ -7,7 +7,7 @@ ghost use Rattle.tuple_layout.specs.Reading.{IsAligned, IsCellFault, IsMisplaced
 ghost use Rattle.external_pointer.specs.Spelling.{IsInRange, pointer_bytes};
 
 use crate::cell::Cell;
-use crate::size::{LONGEST_SHORT, padding};
+use crate::size::{is_short, padding};
 use crate::{Bytes, Storage};
 use external_pointer::{Pointer, PointerFault, read_pointer};
 use std::alloc::{AllocError, Global};
@@ -53,7 +53,7 @@ fn long_cell(alloc: Global, storage: Storage, payload: &[u8]) -> Result<Cell, Ce
     ensures found { IfOk result (λ cell. (cell ≡ Cell.Inline payload.now) × IsAligned storage (length payload.now)) }
     ensures fault { IfErr result (IsMisplaced (¬ (IsAligned storage (length payload.now)))) }
 {
-    if storage == Storage::External && payload.len() <= LONGEST_SHORT {
+    if is_short(storage, payload.len()) {
         return Err(CellFault::Bad);
     }
     let value = Bytes::from_slice(alloc, payload)?;

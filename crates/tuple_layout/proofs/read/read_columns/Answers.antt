@@ -10,15 +10,15 @@ loop-storage-init c =
     let none : c.new-cells.result ≡ [] = c.new-cells.ensures in
     rw none (record {
       count = refl;
-      place = sym (end_none c.args.schema.now);
+      place = sym (end_none c.args.schema.now.storages);
       within = c.requires;
-      holds = holds_none c.args.schema.now c.args.bitmap c.args.body.now;
+      holds = holds_none c.args.schema.now.storages c.args.bitmap c.args.body.now;
     })
 
 pub returns-in_err-cell-clause-fault : goal.returns-in_err-cell-clause-fault
 returns-in_err-cell-clause-fault c =
     let l = c.loop-storage in
-    let schema = c.args.schema.now in
+    let schema = c.args.schema.now.storages in
     let p = err_from_is_err_and c.from_residual.result c.from_residual.ensures.1 in
     let more : length l.cells < length schema = omega (arith, ap length c.storages-storage-items.ensures.all, c.loop-storage-test.true, l.invariant.count) in
     let storage = storage_is schema c.storages-storage-items.result.now l.storage-index (length l.cells) c.storages-storage-items.ensures.all l.invariant.count c.loop-storage-test.true in
@@ -29,7 +29,7 @@ returns-in_err-cell-clause-fault c =
 pub loop-storage-preserved : goal.loop-storage-preserved
 loop-storage-preserved c =
     let l = c.loop-storage in
-    let schema = c.args.schema.now in
+    let schema = c.args.schema.now.storages in
     let bytes = c.args.body.now in
     let size = c.in_ok-cell.size in
     let more : length l.cells < length schema = omega (arith, ap length c.storages-storage-items.ensures.all, c.loop-storage-test.true, l.invariant.count) in

@@ -5,7 +5,7 @@ use Rattle.tuple_layout.proofs.size.row_size.Goals as goal
 
 pub returns : goal.returns
 returns c =
-    let schema = c.args.schema.now in
+    let schema = c.args.schema.now.storages in
     let cells = c.args.cells.now in
     let all : length c.loop-storage.yielded ≡ min (length schema) (length cells) =
     zip_end schema cells c.loop-storage.yielded c.into_iter-storage-iterator.result c.loop-storage.storage-iterator c.next.new.self c.next.result (search rules) (search rules) c.loop-storage.yielded_by c.in-None.is c.next.ensures.steps in

@@ -1,11 +1,11 @@
 -- With all out of line that may be, a row has one size, whatever was out of line before.
 use Rattle.std.proofs.Common.{◌≡◌, ℕ, ◌+◌, ◌-◌, ◌<◌, ◌≤◌, Bool, true, false, List, [], ◌∷◌, Option, Some, None, length, map, refl, sym, ap, ◌∙◌, arith, inl, inr}
-use Rattle.std.specs.Prelude.{nat_le, ◌==◌, ◌||◌, if◌then◌else◌}
+use Rattle.std.specs.Prelude.{◌==◌, ◌||◌, if◌then◌else◌}
 use Rattle.tuple_layout.specs.declared.Storage.{Storage}
 use Rattle.tuple_layout.specs.declared.Storage.TheVariants.{Plain, External}
 use Rattle.tuple_layout.specs.Places.{Row}
-use Rattle.tuple_layout.specs.Sizes.{Width, Missing, Within, Outside, width, widths, size, least_out, is_eligible, is_eligible_column, all_out_size}
-use Rattle.tuple_toaster.specs.Pushed.{Columns, put_before, with_column, eligible_from, is_among, width_besides, moved_from, all_out_size as all_moved_size}
+use Rattle.tuple_layout.specs.Sizes.{Width, Missing, Within, Outside, width, widths, size, least_out, may_go_out, is_eligible, is_eligible_column, all_out_size}
+use Rattle.tuple_toaster.specs.Pushed.{Columns, put_before, with_column, eligible_from, is_among, width_besides, moved_from, all_moved_size}
 use Rattle.tuple_toaster.proofs.Ordered.{AreFrom, eligible_after, test_cases, same_cases}
 use Rattle.tuple_toaster.proofs.Least.{widths_from, Agrees, agrees, eligible_at}
 
@@ -32,28 +32,27 @@ among_none n m (c ∷ cs) lt h = elim (same_cases c.0 m) [ inl same ↦ absurd (
 
 -- a column is among those that may go out where it may
 abbrev may_go : Storage → Width → Bool
-may_go Plain w = false
-may_go External Missing = false
-may_go External (Within n) = nat_le least_out n
-may_go External Outside = false
+may_go s Missing = false
+may_go s (Within n) = may_go_out s n
+may_go s Outside = false
 
 among_own : (n : ℕ) (s : Storage) (w : Width) (cs : Columns) → AreFrom (n + 1) cs → is_among (columns (with_column n s w cs)) n ≡ may_go s w
-among_own n Plain w cs h = among_none (n + 1) n cs (omega arith) h
-among_own n External Missing cs h = among_none (n + 1) n cs (omega arith) h
+among_own n Plain (Within size) cs h = among_none (n + 1) n cs (omega arith) h
+among_own n s Missing cs h = among_none (n + 1) n cs (omega arith) h
 among_own n External (Within len) cs h = elim (test_cases least_out len) [
   | inl low ↦ rw low.1 (among_put (n, len) cs n ∙ (elim (same_cases n n) [ inl same ↦ ap (λ (b : Bool). b || is_among (columns cs) n) same.1 | inr other ↦ absurd (other.0 refl) ]))
   | inr high ↦ rw high.1 (among_none (n + 1) n cs (omega arith) h)
 ]
-among_own n External Outside cs h = among_none (n + 1) n cs (omega arith) h
+among_own n s Outside cs h = among_none (n + 1) n cs (omega arith) h
 
 among_other : (n m : ℕ) (s : Storage) (w : Width) (cs : Columns) → n < m → is_among (columns (with_column n s w cs)) m ≡ is_among (columns cs) m
-among_other n m Plain w cs lt = refl
-among_other n m External Missing cs lt = refl
+among_other n m Plain (Within size) cs lt = refl
+among_other n m s Missing cs lt = refl
 among_other n m External (Within len) cs lt = elim (test_cases least_out len) [
   | inl low ↦ rw low.1 (among_put (n, len) cs m ∙ (elim (same_cases n m) [ inl same ↦ absurd (omega (arith, same.0)) | inr other ↦ ap (λ (b : Bool). b || is_among (columns cs) m) other.1 ]))
   | inr high ↦ rw high.1 refl
 ]
-among_other n m External Outside cs lt = refl
+among_other n m s Outside cs lt = refl
 
 moved_same : (n : ℕ) (out others : List ℕ) (ws : List Width) → ((m : ℕ) → n ≤ m → is_among out m ≡ is_among others m) → moved_from n out ws ≡ moved_from n others ws
 moved_same n out others [] h = refl

@@ -2,3 +2,4 @@ pub mod Ordered
 pub mod Walks
 pub mod Least
 pub mod AllOut
+pub mod Going

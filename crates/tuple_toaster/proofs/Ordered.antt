@@ -61,19 +61,19 @@ from_less m n (c ∷ cs) le h = (omega (arith, h.0), from_less m n cs le h.1)
 
 -- what holds of both a list and the list with a column put in holds after `with_column`
 descends_with : (column : ℕ) (s : Storage) (w : Width) (cs : Columns) → Descends cs → Descends (with_column column s w cs)
-descends_with column Plain w cs h = h
-descends_with column External Missing cs h = h
+descends_with column Plain (Within size) cs h = h
+descends_with column s Missing cs h = h
 descends_with column External (Within n) cs h = elim (test_cases least_out n) [ inl low ↦ rw low.1 (descends_put (column, n) cs h) | inr high ↦ rw high.1 h ]
-descends_with column External Outside cs h = h
+descends_with column s Outside cs h = h
 
 from_with : (column : ℕ) (s : Storage) (w : Width) (cs : Columns) → AreFrom (column + 1) cs → AreFrom column (with_column column s w cs)
-from_with column Plain w cs h = from_less column (column + 1) cs (omega arith) h
-from_with column External Missing cs h = from_less column (column + 1) cs (omega arith) h
+from_with column Plain (Within size) cs h = from_less column (column + 1) cs (omega arith) h
+from_with column s Missing cs h = from_less column (column + 1) cs (omega arith) h
 from_with column External (Within n) cs h = elim (test_cases least_out n) [
   | inl low ↦ rw low.1 (from_put column (column, n) cs (omega arith) (from_less column (column + 1) cs (omega arith) h))
   | inr high ↦ rw high.1 (from_less column (column + 1) cs (omega arith) h)
 ]
-from_with column External Outside cs h = from_less column (column + 1) cs (omega arith) h
+from_with column s Outside cs h = from_less column (column + 1) cs (omega arith) h
 
 eligible_descends : (column : ℕ) (schema : List Storage) (ws : List Width) → Descends (eligible_from column schema ws)
 eligible_descends column [] ws = tt
@@ -126,25 +126,24 @@ without_put column c (d ∷ ds) ne h = elim (same_cases c.0 column) [
 
 -- a column that is out of line is no candidate
 skip_outside : (column : ℕ) (s : Storage) (cs : Columns) → with_column column s Outside cs ≡ cs
-skip_outside column Plain cs = refl
-skip_outside column External cs = refl
+skip_outside column s cs = refl
 
 -- a column that is or is not put in, and then taken away
 without_with : (column : ℕ) (s : Storage) (w : Width) (cs : Columns) → AreFrom (column + 1) cs → without column (with_column column s w cs) ≡ cs
-without_with column Plain w cs h = without_none column (column + 1) cs (omega arith) h
-without_with column External Missing cs h = without_none column (column + 1) cs (omega arith) h
+without_with column Plain (Within size) cs h = without_none column (column + 1) cs (omega arith) h
+without_with column s Missing cs h = without_none column (column + 1) cs (omega arith) h
 without_with column External (Within n) cs h = elim (test_cases least_out n) [
   | inl low ↦ rw low.1 (without_own column n (column + 1) cs (omega arith) h)
   | inr high ↦ rw high.1 (without_none column (column + 1) cs (omega arith) h)
 ]
-without_with column External Outside cs h = without_none column (column + 1) cs (omega arith) h
+without_with column s Outside cs h = without_none column (column + 1) cs (omega arith) h
 
 -- another column that is taken away before or after
 with_without : (other column : ℕ) (s : Storage) (w : Width) (cs : Columns) → (column ≡ other → ⊥) → Descends cs → with_column column s w (without other cs) ≡ without other (with_column column s w cs)
-with_without other column Plain w cs ne h = refl
-with_without other column External Missing cs ne h = refl
+with_without other column Plain (Within size) cs ne h = refl
+with_without other column s Missing cs ne h = refl
 with_without other column External (Within n) cs ne h = elim (test_cases least_out n) [ inl low ↦ rw low.1 (without_put other (column, n) cs ne h) | inr high ↦ rw high.1 refl ]
-with_without other column External Outside cs ne h = refl
+with_without other column s Outside cs ne h = refl
 
 or_false : (b : Bool) → (b || false) ≡ b
 or_false true = refl
@@ -203,10 +202,10 @@ length_put c [] = omega arith
 length_put c (d ∷ ds) = elim (test_cases d.1 c.1) [ inl low ↦ rw low.1 (omega arith) | inr high ↦ rw high.1 (let all : length (d ∷ put_before c ds) ≡ length (d ∷ ds) + 1 = omega (arith, length_put c ds) in all) ]
 
 one_more : (column : ℕ) (s : Storage) (w : Width) (cs : Columns) → length (with_column column s w cs) ≤ length cs + 1
-one_more column Plain w cs = omega arith
-one_more column External Missing cs = omega arith
+one_more column Plain (Within size) cs = omega arith
+one_more column s Missing cs = omega arith
 one_more column External (Within n) cs = elim (test_cases least_out n) [ inl low ↦ rw low.1 (omega (arith, length_put (column, n) cs)) | inr high ↦ rw high.1 (omega arith) ]
-one_more column External Outside cs = omega arith
+one_more column s Outside cs = omega arith
 
 pub few_eligible : (column : ℕ) (schema : List Storage) (ws : List Width) → length (eligible_from column schema ws) ≤ length schema
 few_eligible column [] ws = omega arith
@@ -216,14 +215,14 @@ few_eligible column (s ∷ ss) (w ∷ ws) = omega (arith, one_more column s w (e
 -- ---- the first of the order, by a walk from left to right
 
 pub first_with : (column : ℕ) (s : Storage) (w : Width) (cs : Columns) → first_of (with_column column s w cs) ≡ longer (candidate column s w) (first_of cs)
-first_with column Plain w cs = refl
-first_with column External Missing cs = refl
+first_with column Plain (Within size) cs = refl
+first_with column s Missing cs = refl
 first_with column External (Within n) [] = elim (test_cases least_out n) [ inl low ↦ rw low.1 refl | inr high ↦ rw high.1 refl ]
 first_with column External (Within n) (d ∷ ds) = elim (test_cases least_out n) [
   | inl low ↦ elim (test_cases d.1 n) [ inl long ↦ rw (low.1, long.1) refl | inr short ↦ rw (low.1, short.1) refl ]
   | inr high ↦ rw high.1 refl
 ]
-first_with column External Outside cs = refl
+first_with column s Outside cs = refl
 
 pub longer_assoc : (a b c : Option (ℕ × ℕ)) → longer a (longer b c) ≡ longer (longer a b) c
 longer_assoc None b c = refl

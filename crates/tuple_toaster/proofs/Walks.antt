@@ -1,5 +1,5 @@
 -- The walks over the columns, and the choice of one column after the other.
-use Rattle.std.proofs.Common.{◌≡◌, ℕ, ◌+◌, ◌<◌, ◌≤◌, Bool, true, false, List, [], ◌∷◌, ◌++◌, Option, Some, None, length, map, drop, get_or, min, refl, sym, ap, ◌∙◌, append_assoc, arith, inl, inr, ◌⊎◌}
+use Rattle.std.proofs.Common.{◌≡◌, ℕ, ◌+◌, ◌<◌, ◌≤◌, Bool, true, false, List, [], ◌∷◌, ◌++◌, Option, Some, length, map, drop, get_or, min, refl, sym, ap, ◌∙◌, append_assoc, arith, inl, inr, ◌⊎◌}
 use Rattle.std.specs.Prelude.{nat_le, ◌||◌, if◌then◌else◌}
 use Rattle.std.specs.List.{list_any}
 use Rattle.std.proofs.lemmas.List.{drop_more, drop_all, length_push, append-nil}
@@ -8,7 +8,7 @@ use Rattle.tuple_layout.specs.declared.Storage.{Storage}
 use Rattle.tuple_layout.specs.declared.cell.Cell.{Cell}
 use Rattle.tuple_layout.specs.Sizes.{Width, is_missing, column_end, data_end_from, header_size, size}
 use Rattle.tuple_layout.specs.Tuples.{cell_width, cell_widths}
-use Rattle.tuple_toaster.specs.Pushed.{Columns, eligible_from, eligible, width_besides, moved_from, moved, size_with, shortest, pushed, all_out_size}
+use Rattle.tuple_toaster.specs.Pushed.{Columns, eligible_from, eligible, width_besides, moved_from, moved, size_with, shortest, pushed, all_moved_size}
 use Rattle.tuple_toaster.specs.Largest.{first_of, longer, candidate, candidate_besides}
 use Rattle.tuple_toaster.proofs.Ordered.{without, eligible_more, without_first, few_eligible, first_with, longer_assoc}
 
@@ -166,7 +166,7 @@ within : (n target : ℕ) → nat_le n target ≡ true → n ≤ target
 within n target h = grind (arith, nat_tests)
 
 -- a row that is too large for the target has all out of line that may go
-pub large_has_all : (schema : List Storage) (ws : List Width) (target : ℕ) → target < size_with schema ws (pushed schema ws target) → size_with schema ws (pushed schema ws target) ≡ all_out_size schema ws
+pub large_has_all : (schema : List Storage) (ws : List Width) (target : ℕ) → target < size_with schema ws (pushed schema ws target) → size_with schema ws (pushed schema ws target) ≡ all_moved_size schema ws
 large_has_all schema ws target large = elim (shortest_ends (λ out. nat_le (size_with schema ws out) target) [] (eligible schema ws)) [
   | inl fit ↦ absurd (omega (arith, within (size_with schema ws (pushed schema ws target)) target fit, large))
   | inr all ↦ ap (size_with schema ws) all

@@ -2,8 +2,7 @@
 use Rattle.std.specs.Prelude.{ℕ, ◌+◌, Bool, List, [], ◌∷◌, ◌++◌, map, nat_le, ◌==◌, if◌then◌else◌}
 use Rattle.std.specs.List.{list_any}
 use Rattle.tuple_layout.specs.declared.Storage.{Storage}
-use Rattle.tuple_layout.specs.declared.Storage.TheVariants.{Plain, External}
-use Rattle.tuple_layout.specs.Sizes.{Width, Missing, Within, Outside, least_out, size}
+use Rattle.tuple_layout.specs.Sizes.{Width, Missing, Within, Outside, may_go_out, size}
 
 -- columns with their lengths
 abbrev pub Columns : Type 0
@@ -14,12 +13,11 @@ abbrev pub put_before : ℕ × ℕ → Columns → Columns
 put_before c [] = c ∷ []
 put_before c (d ∷ ds) = if nat_le d.1 c.1 then c ∷ d ∷ ds else d ∷ put_before c ds
 
--- the column, if its value may go out: it is EXTERNAL, inline and long enough
+-- the column, if its value is inline and may go out
 abbrev pub with_column : ℕ → Storage → Width → Columns → Columns
-with_column column Plain w cs = cs
-with_column column External Missing cs = cs
-with_column column External (Within n) cs = if nat_le least_out n then put_before (column, n) cs else cs
-with_column column External Outside cs = cs
+with_column column storage Missing cs = cs
+with_column column storage (Within n) cs = if may_go_out storage n then put_before (column, n) cs else cs
+with_column column storage Outside cs = cs
 
 -- the columns that may go out, from this number on, the longest first and of equal ones the first
 abbrev pub eligible_from : ℕ → List Storage → List Width → Columns
@@ -61,5 +59,5 @@ abbrev pub pushed : List Storage → List Width → ℕ → List ℕ
 pushed schema ws target = shortest (λ out. nat_le (size_with schema ws out) target) [] (eligible schema ws)
 
 -- the size with all columns out of line that may go out
-abbrev pub all_out_size : List Storage → List Width → ℕ
-all_out_size schema ws = size_with schema ws (eligible schema ws)
+abbrev pub all_moved_size : List Storage → List Width → ℕ
+all_moved_size schema ws = size_with schema ws (eligible schema ws)

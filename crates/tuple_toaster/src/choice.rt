@@ -4,20 +4,13 @@ ghost use Rattle.std.specs.Prelude.{◌≡◌, ◌≤◌, ◌<◌, ◌+◌, ◌^
 ghost use Rattle.std.specs.List.{All};
 ghost use Rattle.tuple_layout.specs.Sizes.{column_end, is_missing, largest_tuple};
 ghost use Rattle.tuple_layout.specs.Tuples.{IsWithinLimits, cell_width, cell_widths};
-ghost use Rattle.tuple_toaster.specs.Pushed.{all_out_size, pushed, size_with, width_besides};
+ghost use Rattle.tuple_toaster.specs.Pushed.{all_moved_size, pushed, size_with, width_besides};
 
 use crate::columns::OutColumns;
 use crate::largest::largest;
-use tuple_layout::{Cell, Schema, Storage, column_end, header_size};
-
-/// The largest tuple that fits on a page, in bytes.
-const LARGEST_TUPLE: usize = 8160;
-
-/// What a pointer to a value out of line takes, in bytes.
-const POINTER_SIZE: usize = 18;
-
-/// What a row's key takes, in bytes.
-const KEY_SIZE: usize = 8;
+use tuple_layout::{
+    Cell, KEY_SIZE, LARGEST_TUPLE, POINTER_SIZE, Schema, Storage, column_end, header_size,
+};
 
 /// A tuple is too large for a page, whatever goes out of line.
 #[derive(Clone, Copy, Debug, PartialEq, Eq)]
@@ -49,9 +42,9 @@ fn end_besides(out: &OutColumns, column: u16, storage: Storage, at: usize, cell:
 
 /// How many bytes the row's tuple takes when the columns of `out` are out of line too.
 fn size_with(schema: &Schema, cells: &[Cell], out: &OutColumns) -> usize
-    requires one_each { length cells.now ≡ length schema.now }
+    requires one_each { length cells.now ≡ length schema.now.storages }
     requires limits { All IsWithinLimits cells.now }
-    ensures { result ≡ size_with schema.now (cell_widths cells.now) out.now }
+    ensures { result ≡ size_with schema.now.storages (cell_widths cells.now) out.now }
 {
     let mut column = 0;
     let mut has_null = false;
@@ -67,9 +60,9 @@ fn size_with(schema: &Schema, cells: &[Cell], out: &OutColumns) -> usize
 /// The columns that go out: the largest, and again the largest, until the tuple takes at most
 /// `target` bytes or none is left.
 fn choose(schema: &Schema, cells: &[Cell], target: usize) -> OutColumns
-    requires one_each { length cells.now ≡ length schema.now }
+    requires one_each { length cells.now ≡ length schema.now.storages }
     requires limits { All IsWithinLimits cells.now }
-    ensures { result ≡ pushed schema.now (cell_widths cells.now) target }
+    ensures { result ≡ pushed schema.now.storages (cell_widths cells.now) target }
 {
     let mut out = OutColumns::new();
     while size_with(schema, cells, &out) > target {
@@ -88,15 +81,15 @@ fn choose(schema: &Schema, cells: &[Cell], target: usize) -> OutColumns
 /// that may go out does not do, all of it goes out.
 ///
 /// # Errors
-/// `RowTooBig` exactly where the tuple then takes more than 8160 bytes.
+/// `RowTooBig` exactly where the tuple then takes more than `LARGEST_TUPLE` bytes.
 pub fn plan(schema: &Schema, cells: &[Cell], target: usize) -> Result<OutColumns, RowTooBig>
-    requires one_each { length cells.now ≡ length schema.now }
+    requires one_each { length cells.now ≡ length schema.now.storages }
     requires limits { All IsWithinLimits cells.now }
-    ensures columns { IfOk result (λ out. out ≡ pushed schema.now (cell_widths cells.now) target) }
-    ensures fits { let columns = pushed schema.now (cell_widths cells.now) target in IsOk result → size_with schema.now (cell_widths cells.now) columns ≤ largest_tuple }
-    ensures size { let columns = pushed schema.now (cell_widths cells.now) target in IfErr result (λ fault. fault.size ≡ size_with schema.now (cell_widths cells.now) columns) }
+    ensures columns { IfOk result (λ out. out ≡ pushed schema.now.storages (cell_widths cells.now) target) }
+    ensures fits { let columns = pushed schema.now.storages (cell_widths cells.now) target in IsOk result → size_with schema.now.storages (cell_widths cells.now) columns ≤ largest_tuple }
+    ensures size { let columns = pushed schema.now.storages (cell_widths cells.now) target in IfErr result (λ fault. fault.size ≡ size_with schema.now.storages (cell_widths cells.now) columns) }
     ensures too_big { IfErr result (λ fault. largest_tuple < fault.size) }
-    ensures all_out { target ≤ largest_tuple → IfErr result (λ fault. fault.size ≡ all_out_size schema.now (cell_widths cells.now)) }
+    ensures all_out { target ≤ largest_tuple → IfErr result (λ fault. fault.size ≡ all_moved_size schema.now.storages (cell_widths cells.now)) }
 {
     let out = choose(schema, cells, target);
     let size = size_with(schema, cells, &out);
@@ -107,10 +100,10 @@ pub fn plan(schema: &Schema, cells: &[Cell], target: usize) -> Result<OutColumns
 }
 
 /// How many bytes the row's tuple takes with every column out of line that may go out.
-pub fn all_out_size(schema: &Schema, cells: &[Cell]) -> usize
-    requires one_each { length cells.now ≡ length schema.now }
+pub fn all_moved_size(schema: &Schema, cells: &[Cell]) -> usize
+    requires one_each { length cells.now ≡ length schema.now.storages }
     requires limits { All IsWithinLimits cells.now }
-    ensures { result ≡ all_out_size schema.now (cell_widths cells.now) }
+    ensures { result ≡ all_moved_size schema.now.storages (cell_widths cells.now) }
 {
     let out = choose(schema, cells, 0);
     size_with(schema, cells, &out)

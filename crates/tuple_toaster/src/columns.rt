@@ -27,8 +27,8 @@ impl Model for OutColumns {
 }
 
 impl OutColumns {
-    /// No column.
-    pub(crate) fn new() -> OutColumns
+    /// No column, as where a row is taken away.
+    pub fn new() -> OutColumns
         ensures { result ≡ [] }
     {
         OutColumns {

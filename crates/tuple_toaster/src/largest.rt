@@ -6,20 +6,21 @@ ghost use Rattle.tuple_toaster.specs.Pushed.{eligible_from, moved};
 ghost use Rattle.tuple_toaster.specs.Largest.{candidate, candidate_besides, first_of, longer};
 
 use crate::columns::OutColumns;
-use tuple_layout::{Cell, Schema, Storage};
-
-/// The shortest value that may go out of line, in bytes.
-const LEAST_OUT: usize = 21;
+use tuple_layout::{Cell, Schema, Storage, may_go_out};
 
 /// A column and the length of its value, if it may go out.
 fn candidate(column: u16, storage: Storage, cell: &Cell) -> Option<(u16, usize)>
     ensures { result ≡ candidate column storage (cell_width cell.now) }
 {
-    match (storage, cell) {
-        (Storage::External, Cell::Inline(value)) if value.len() >= LEAST_OUT => {
-            Some((column, value.len()))
+    match cell {
+        Cell::Inline(value) => {
+            if may_go_out(storage, value.len()) {
+                Some((column, value.len()))
+            } else {
+                None
+            }
         }
-        _ => None,
+        Cell::Null | Cell::Out(_) => None,
     }
 }
 
@@ -57,9 +58,9 @@ fn longer(first: Option<(u16, usize)>, second: Option<(u16, usize)>) -> Option<(
 
 /// The largest column that may go out and is none of `out`, of equal ones the first, with its length.
 pub(crate) fn largest(schema: &Schema, cells: &[Cell], out: &OutColumns) -> Option<(u16, usize)>
-    requires { length cells.now ≡ length schema.now }
-    ensures first { result ≡ first_of (eligible_from 1 schema.now (moved out.now (cell_widths cells.now))) }
-    ensures few { length schema.now ≤ 8 }
+    requires { length cells.now ≡ length schema.now.storages }
+    ensures first { result ≡ first_of (eligible_from 1 schema.now.storages (moved out.now (cell_widths cells.now))) }
+    ensures few { length schema.now.storages ≤ 8 }
 {
     let mut column = 0;
     let mut best = None;

@@ -8,9 +8,9 @@ mod columns;
 mod largest;
 mod law;
 
-pub use choice::{RowTooBig, all_out_size, plan};
+pub use choice::{RowTooBig, all_moved_size, plan};
 pub use columns::OutColumns;
-pub use law::{least_size, one_all_out_size};
+pub use law::{cells_widths, least_size, one_all_out_size, pushed_may_go, pushed_widths};
 
 #[cfg(test)]
 mod tests;

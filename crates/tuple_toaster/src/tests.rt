@@ -5,7 +5,7 @@ ghost use Rattle.tuple_layout.specs.Tuples.{IsWithinLimits};
 use super::*;
 use std::alloc::{AllocError, Global};
 use std::test::Fail;
-use tuple_layout::{Bytes, Cell, CellList, Pointer, Schema, Storage, header_size};
+use tuple_layout::{Bytes, Cell, CellList, LARGEST_TUPLE, Pointer, Schema, Storage, header_size};
 
 fn keeps_limit(cell: &Cell) -> bool
     ensures { IsTrue result → IsWithinLimits cell.now }
@@ -72,7 +72,7 @@ fn planned(
     if cells.len() != schema.storages().len() || !keep_limits(cells) {
         return Err(Fail::new("no row of this schema"));
     }
-    Ok((plan(&schema, cells, target), all_out_size(&schema, cells)))
+    Ok((plan(&schema, cells, target), all_moved_size(&schema, cells)))
 }
 
 /// Whether these columns are planned, in this order.
@@ -223,8 +223,8 @@ fn agrees(alloc: Global, storages: [Storage; 2], columns: [Column; 2]) -> Result
     let (plan, all_out) = planned(alloc, &storages, &columns, 2032)?;
     let want = wanted(storages, columns);
     match plan {
-        Ok(out) => Ok(all_out <= 8160 && out.as_slice() == want),
-        Err(fault) => Ok(all_out > 8160 && fault.size == all_out),
+        Ok(out) => Ok(all_out <= LARGEST_TUPLE && out.as_slice() == want),
+        Err(fault) => Ok(all_out > LARGEST_TUPLE && fault.size == all_out),
     }
 }
 

@@ -11,6 +11,6 @@ abbrev pub invariant-loop-storage : goal.invariant-loop-storage
 invariant-loop-storage l = record {
   count : l.column ≡ length l.yielded;
   bound : l.end ≤ 8 + 65543 * length l.yielded;
-  rest : data_end_from l.end (drop (length l.yielded) l.fn.schema) (left_of l.fn.out l.fn.cells (length l.yielded)) ≡ data_end_from 8 l.fn.schema (moved l.fn.out (cell_widths l.fn.cells));
+  rest : data_end_from l.end (drop (length l.yielded) l.fn.schema.storages) (left_of l.fn.out l.fn.cells (length l.yielded)) ≡ data_end_from 8 l.fn.schema.storages (moved l.fn.out (cell_widths l.fn.cells));
   null : (l.has_null || list_any is_missing (left_of l.fn.out l.fn.cells (length l.yielded))) ≡ list_any is_missing (moved l.fn.out (cell_widths l.fn.cells));
 }

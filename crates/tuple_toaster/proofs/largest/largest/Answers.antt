@@ -7,7 +7,7 @@ use Rattle.tuple_toaster.proofs.largest.largest.Goals as goal
 pub loop-storage-preserved : goal.loop-storage-preserved
 loop-storage-preserved c =
     let l = c.loop-storage in
-    let schema = c.args.schema.now in
+    let schema = c.args.schema.now.storages in
     let cells = c.args.cells.now in
     let turn = zip_turn schema cells l.yielded c.into_iter-storage-iterator.result l.storage-iterator c.next.new.self c.next.result (search rules) (search rules) l.yielded_by (c.in-Some.storage, c.in-Some.cell) c.in-Some.is c.next.ensures.steps in
     let more = length_push l.yielded (c.in-Some.storage, c.in-Some.cell) in

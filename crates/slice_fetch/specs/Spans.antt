@@ -3,6 +3,7 @@ use Rattle.std.specs.Prelude.{ℕ, ◌≡◌, ◌+◌, ◌-◌, ◌*◌, ℤ, Li
 use Rattle.std.specs.List.{slice_range, flat_map, range_with_len}
 use Rattle.tuple_layout.specs.Slices.{slice}
 use Rattle.slice_fetch.specs.declared.Span.{Span}
+use Rattle.slice_fetch.specs.declared.TheConstants.{CHUNK_SIZE}
 
 -- the bytes of a value that a span names
 abbrev pub bytes_in : Span → List ℕ → List ℕ
@@ -14,7 +15,7 @@ IsSlice size offset len span = (bytes : List ℕ) → length bytes ≡ size → 
 
 -- the most bytes of a value that one chunk holds
 abbrev pub chunk_size : ℕ
-chunk_size = 1996
+chunk_size = CHUNK_SIZE
 
 -- the bytes of a value that its chunk with this number holds, counted from 0
 abbrev pub piece : List ℕ → ℕ → List ℕ

@@ -8,7 +8,7 @@ ghost use Rattle.slice_fetch.specs.Spans.{IsSlice, bytes_in, chunk_size, pieces_
 #[cfg(test)]
 mod tests;
 
-/// The most bytes of a value that one chunk holds.
+/// The most bytes of a value that one chunk holds (TOAST_MAX_CHUNK_SIZE: four chunks fill a page).
 pub const CHUNK_SIZE: u32 = 1996;
 
 /// The bytes of a value from `start` up to, and without, `end`; both are counted from 0.

@@ -8,3 +8,4 @@ mod Kept
 mod Puts
 pub mod Loops
 pub mod Gathered
+pub mod NextItems

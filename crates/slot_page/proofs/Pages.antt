@@ -10,7 +10,7 @@ use Rattle.slot_page.proofs.Lookups.{get_or-set, get_or-push, changed_or_added, 
 use Rattle.slot_page.specs.declared.line.Tid.{Tid}
 use Rattle.slot_page.specs.declared.line.LinePointer.{LinePointer}
 use Rattle.slot_page.specs.declared.line.LinePointer.TheVariants.{Normal, Dead, Unused}
-use Rattle.slot_page.specs.Slots.{is_unused, IsNormal, IsDead, item_of, with_item, slot_at, first_unused, fits, with_put}
+use Rattle.slot_page.specs.Slots.{is_unused, IsNormal, IsDead, item_of, with_item, slot_at, first_unused, fits, largest_item, with_put}
 use Rattle.slot_page.specs.Pages.{page_at, slot_of, item_in, written, fit_page, put_tid, with_put_on}
 use Rattle.slot_page.proofs.Tids.{tid_same}
 use Rattle.slot_page.proofs.Rooms.{set_is}
@@ -118,7 +118,7 @@ pub fit_page_is : {T : Type 0} (size : ℕ) (pages : List (List (LinePointer T))
 fit_page_is size pages page within below here = position_or_len_is (fits size) pages page [] within below here
 
 -- an item of a size that a page may hold fits on a new page
-pub fits_new_page : (T : Type 0) (size : ℕ) → size ≤ 8160 → fits {T = T} size [] ≡ true
+pub fits_new_page : (T : Type 0) (size : ℕ) → size ≤ largest_item → fits {T = T} size [] ≡ true
 fits_new_page T size most = grind (arith, nat_tests)
 
 -- what a function that leaves unused slots does to every slot it does at each place

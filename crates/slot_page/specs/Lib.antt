@@ -4,3 +4,4 @@ pub mod Tids
 pub mod Pages
 pub mod Marks
 pub mod DeadSlots
+pub mod NextItems

@@ -63,6 +63,10 @@ most_slots = 291
 abbrev pub rounded : ℕ → ℕ
 rounded size = (size + 7) / 8 * 8
 
+-- the largest item that fits on a page, in bytes: what the header and one line pointer leave, rounded down to 8
+abbrev pub largest_item : ℕ
+largest_item = (page_size - header_size - pointer_size) / 8 * 8
+
 -- the bytes that a slot's item takes
 abbrev pub taken : {T : Type 0} → LinePointer T → ℕ
 taken (Normal size item) = rounded size

@@ -9,7 +9,7 @@ mod search;
 #[cfg(test)]
 mod tests;
 
-pub use line::{LinePointer, Slot, Tid};
+pub use line::{LinePointer, Slot, Tid, TidList};
 pub use page::{NoRoom, Page};
 pub use page_list::PageList;
 pub use search::is_listed;

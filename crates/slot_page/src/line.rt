@@ -1,3 +1,7 @@
+//! Line pointers, and the places of items.
+
+use list_facts::ListOf;
+
 /// The place of an item in a relation: its page and its slot there, both counted from 0
 /// (PostgreSQL's tuple identifier).
 #[derive(Clone, Copy, Debug, PartialEq, Eq, PartialOrd, Ord)]
@@ -5,6 +9,9 @@ pub struct Tid {
     pub page: u64,
     pub slot: u16,
 }
+
+/// A list of tids.
+pub type TidList = ListOf<Tid>;
 
 /// The state of a slot.
 #[derive(Clone, Copy, Debug, PartialEq, Eq)]

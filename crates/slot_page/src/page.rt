@@ -1,7 +1,8 @@
-ghost use Rattle.std.specs.Prelude.{◌≡◌, ℕ, ◌≤◌, ◌<◌, [], length, slice_set, Some, IfOk, IfErr, OnOk, OnErr, is_ok, position, option_copied};
+ghost use Rattle.std.specs.Prelude.{◌≡◌, ℕ, ◌≤◌, ◌<◌, [], length, slice_set, Some, IfNone, IfOk, IfErr, IfSome, OnOk, OnErr, is_ok, position, option_copied};
 ghost use Rattle.std.specs.Option.{option_map};
 ghost use Rattle.std.specs.Borrow.{sem};
-ghost use Rattle.slot_page.specs.Slots.{is_unused, rounded, IsNormal, IsDead, item_of, state_of, slot_at, first_unused, fits, with_put, most_slots};
+ghost use Rattle.slot_page.specs.NextItems.{AreSlotsEmpty, IsNextSlot};
+ghost use Rattle.slot_page.specs.Slots.{is_unused, rounded, IsNormal, IsDead, item_of, state_of, slot_at, first_unused, fits, with_put, largest_item, most_slots};
 
 use crate::line::{LinePointer, Slot};
 use std::alloc::{AllocError, Global};
@@ -79,7 +80,7 @@ impl<T: Drop> Page<T> {
     /// `NoRoom` hands the item back exactly where it does not fit. The page is then as before.
     pub fn put(&mut self, size: u16, item: T) -> Result<u16, NoRoom<T>>
         requires least { 24 ≤ size }
-        requires most { size ≤ 8160 }
+        requires most { size ≤ largest_item }
         ensures fits { is_ok result ≡ fits size self.old }
         ensures slot { IfOk result (λ slot. slot ≡ first_unused self.old) }
         ensures put { OnOk result (self.new ≡ with_put size item self.old) }
@@ -133,6 +134,19 @@ impl<T: Drop> Page<T> {
             Some(line) => line.state(),
             None => Slot::Unused,
         }
+    }
+
+    /// The first slot from one on that has an item, if there is one.
+    pub(crate) fn next_item(&self, from: u16) -> Option<u16>
+        ensures found { IfSome result (λ slot. IsNextSlot self.now from slot) }
+        ensures none { IfNone result ((k : ℕ) → from ≤ k → item_of (slot_at self.now k) ≡ None) }
+    {
+        for slot in from..self.len() {
+            if self.get(slot).is_some() {
+                return Some(slot);
+            }
+        }
+        None
     }
 
     /// The number of slots, unused ones included.

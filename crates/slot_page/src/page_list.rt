@@ -1,11 +1,12 @@
 //! The pages of a relation.
 
-ghost use Rattle.std.specs.Prelude.{◌≡◌, ℕ, ◌+◌, ◌/◌, ◌≤◌, ◌<◌, [], false, length, map, min, slice_index, vec_len, IfErr, IfOk, OnErr, OnOk, option_copied};
+ghost use Rattle.std.specs.Prelude.{◌≡◌, ℕ, ◌+◌, ◌/◌, ◌≤◌, ◌<◌, [], false, length, map, min, slice_index, vec_len, IfErr, IfNone, IfOk, IfSome, OnErr, OnOk, option_copied};
 ghost use Rattle.std.specs.Option.{option_map};
 ghost use Rattle.std.specs.Borrow.{sem};
-ghost use Rattle.slot_page.specs.Slots.{fits, with_put};
+ghost use Rattle.slot_page.specs.Slots.{fits, largest_item, with_put};
 ghost use Rattle.slot_page.specs.Pages.{item_in, page_at, put_tid, with_put_on};
 ghost use Rattle.slot_page.specs.Marks.{class_of};
+ghost use Rattle.slot_page.specs.NextItems.{IsEmptyFrom, IsNextItem};
 
 use crate::line::{LinePointer, Tid};
 use crate::page::{NoRoom, Page};
@@ -38,7 +39,7 @@ impl<T> Model for PageList<T> {
 
 /// The class of a size: an item takes its size rounded up to 8, so items of one class fit on the same pages.
 fn class_of(size: u16) -> usize
-    requires { size ≤ 8160 }
+    requires { size ≤ largest_item }
     ensures { result ≡ class_of size }
 {
     (size as usize + 7) / 8
@@ -73,7 +74,7 @@ fn put_from<T: Drop>(
     item: T,
 ) -> Result<Tid, NoRoom<T>>
     requires least { 24 ≤ size }
-    requires most { size ≤ 8160 }
+    requires most { size ≤ largest_item }
     requires from { from ≤ length pages.old }
     requires full_below { (page : ℕ) → page < from → fits size (page_at pages.old page) ≡ false }
     ensures tid { IfOk result (λ tid. tid ≡ put_tid size pages.old) }
@@ -100,7 +101,7 @@ fn put_from<T: Drop>(
 /// A page with one item.
 fn page_with<T: Drop>(alloc: Global, size: u16, item: T) -> Result<Page<T>, AllocError>
     requires least { 24 ≤ size }
-    requires most { size ≤ 8160 }
+    requires most { size ≤ largest_item }
     ensures { IfOk result (λ page. page ≡ with_put size item []) }
 {
     let mut page = Page::new(alloc)?;
@@ -113,7 +114,7 @@ fn page_with<T: Drop>(alloc: Global, size: u16, item: T) -> Result<Page<T>, Allo
 /// Puts an item on a new page; it fits on none that is there.
 fn put_after<T: Drop>(pages: &mut Vec<Page<T>>, size: u16, item: T) -> Result<Tid, AllocError>
     requires least { 24 ≤ size }
-    requires most { size ≤ 8160 }
+    requires most { size ≤ largest_item }
     requires full { (page : ℕ) → page < length pages.old.items → fits size (page_at pages.old.items page) ≡ false }
     ensures tid { IfOk result (λ tid. tid ≡ put_tid size pages.old.items) }
     ensures put { OnOk result (pages.new.items ≡ with_put_on size item pages.old.items) }
@@ -137,7 +138,7 @@ fn put_on<T: Drop>(
     item: T,
 ) -> Result<Tid, AllocError>
     requires least { 24 ≤ size }
-    requires most { size ≤ 8160 }
+    requires most { size ≤ largest_item }
     requires from { from ≤ length pages.old.items }
     requires full_below { (page : ℕ) → page < from → fits size (page_at pages.old.items page) ≡ false }
     ensures tid { IfOk result (λ tid. tid ≡ put_tid size pages.old.items) }
@@ -200,6 +201,22 @@ impl<T: Drop> PageList<T> {
         self.pages.get(tid.page as usize)?.get(tid.slot)
     }
 
+    /// The first tid from one on, by page and then by slot, that has an item, if there is one. It looks at
+    /// no slot before that one.
+    pub fn next_item(&self, from: Tid) -> Option<Tid>
+        ensures found { IfSome result (IsNextItem self.now from) }
+        ensures none { IfNone result (IsEmptyFrom self.now from) }
+    {
+        let mut first = from.slot;
+        for page in from.page..self.len() {
+            if let Some(slot) = self.page(page).next_item(first) {
+                return Some(Tid { page, slot });
+            }
+            first = 0;
+        }
+        None
+    }
+
     /// The item at a tid for writing, if there is one; its size stays.
     pub fn get_mut(&mut self, tid: Tid) -> Option<&mut T>
         ensures* writes_back { sem 𝓛 (lends_item_in T.row self.entry tid result) }
@@ -212,7 +229,7 @@ impl<T: Drop> PageList<T> {
     /// its tid. Where there is no memory, the pages stay.
     pub fn put(&mut self, size: u16, item: T) -> Result<Tid, AllocError>
         requires least { 24 ≤ size }
-        requires most { size ≤ 8160 }
+        requires most { size ≤ largest_item }
         ensures tid { IfOk result (λ tid. tid ≡ put_tid size self.old) }
         ensures put { OnOk result (self.new ≡ with_put_on size item self.old) }
         ensures unchanged { OnErr result (self.new ≡ self.old) }

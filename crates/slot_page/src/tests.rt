@@ -141,6 +141,27 @@ fn an_item_is_written_at_its_tid(rt: HostRuntime) -> Result<(), AllocError> {
 }
 
 #[test]
+fn items_are_walked_by_page_and_slot(rt: HostRuntime) -> Result<(), AllocError> {
+    let mut pages = PageList::new(rt.alloc());
+    put_each(
+        &rt,
+        &mut pages,
+        &[(8160, at(0, 0)), (24, at(1, 0)), (24, at(1, 1))],
+    )?;
+    let nexts = [
+        (at(0, 0), Some(at(0, 0))),
+        (at(0, 1), Some(at(1, 0))),
+        (at(1, 1), Some(at(1, 1))),
+        (at(1, 2), None),
+        (at(9, 0), None),
+    ];
+    for (from, next) in &nexts {
+        assert!(rt; pages.next_item(*from) == *next);
+    }
+    Ok(())
+}
+
+#[test]
 fn tids_go_by_page_and_then_by_slot(rt: HostRuntime) {
     let first = Tid { page: 0, slot: 9 };
     let second = Tid { page: 1, slot: 2 };

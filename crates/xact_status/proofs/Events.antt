@@ -8,7 +8,7 @@ use Rattle.xact_status.specs.declared.Xact.{Xact}
 use Rattle.xact_status.specs.declared.Xact.TheVariants.{Running, Committed, Aborted}
 use Rattle.xact_status.specs.declared.XactState.{XactState}
 use Rattle.xact_status.specs.declared.XactState.TheVariants as states
-use Rattle.xact_status.specs.Xacts.{Xacts, IsAssigned, xact_at, session_of, number_of, number_of_state, state_of, has_aborted, status, is_running, is_committed, is_aborted, next_xid, after_assign, after_commit, after_abort}
+use Rattle.xact_status.specs.Xacts.{Xacts, IsAssigned, xact_at, session_of, number_of, number_of_state, state_of, has_aborted, status, is_running, is_committed, is_aborted, commit_number, next_xid, after_assign, after_commit, after_abort}
 use Rattle.xact_status.proofs.Places.{assigned_from_running, assigned_from_xact, xact_at_set, xact_at_push}
 use Rattle.xact_status.proofs.Numbers.{number_assign, number_commit, number_abort, number_running}
 
@@ -76,6 +76,23 @@ aborted_is_uncommitted xacts xid aborted = of_xact (xact_at xacts xid) aborted
     of_xact (Some (Running session)) e = refl
     of_xact (Some (Committed number)) e = absurd (cc)
     of_xact (Some Aborted) e = refl
+
+pub aborted_is_over : (xacts : Xacts) (xid : ℕ) → is_aborted xacts xid ≡ true → is_running xacts xid ≡ false
+aborted_is_over xacts xid aborted = of_xact (xact_at xacts xid) aborted
+  where
+    of_xact : (o : Option Xact) → option_map_or has_aborted o false ≡ true → is_some (option_and_then session_of o) ≡ false
+    of_xact None e = refl
+    of_xact (Some (Running session)) e = absurd (cc)
+    of_xact (Some (Committed number)) e = refl
+    of_xact (Some Aborted) e = refl
+
+-- an xid that has committed has a number
+pub some_number : (xacts : Xacts) (xid : ℕ) → is_committed xacts xid ≡ true → (number : ℕ) × (commit_number xacts xid ≡ Some number)
+some_number xacts xid committed = of_number (commit_number xacts xid) committed
+  where
+    of_number : (o : Option ℕ) → is_some o ≡ true → (number : ℕ) × (o ≡ Some number)
+    of_number None e = absurd (cc)
+    of_number (Some number) e = (number, refl)
 
 -- an xid that has committed was given
 pub assigned_from_committed : (xacts : Xacts) (xid : ℕ) → is_committed xacts xid ≡ true → IsAssigned xacts xid

@@ -8,7 +8,8 @@
 
 ghost use Rattle.std.specs.Prelude.{◌≡◌, ◌+◌, ◌++◌, ◌-◌, ◌<◌, ◌∷◌, ◌↔◌, ℕ, [], Contains, IfOk, IsTrue, OnErr, OnOk, slice_set, vec_capacity, vec_len};
 ghost use Rattle.std.specs.List.Sorted.{IsStrictlyIncreasing};
-ghost use Rattle.xact_status.specs.Xacts.{IsAssigned, IsNumbered, after_abort, after_assign, after_commit, commit_count, first_xid, is_running, next_xid, running_xids, session_of, state_of, status};
+ghost use Rattle.xact_status.specs.Versions.{IsStampAssigned, counts_for, is_current};
+ghost use Rattle.xact_status.specs.Xacts.{IsAssigned, IsNumbered, after_abort, after_assign, after_commit, commit_count, first_xid, is_aborted, is_committed, is_running, next_xid, running_xids, session_of, state_of, status};
 
 use std::alloc::{AllocError, Global};
 use std::marker::Model;
@@ -44,6 +45,14 @@ impl Xact {
             Xact::Aborted => XactState::Aborted,
         }
     }
+}
+
+/// The transactions that a version of a row, or a chunk, names: the one that put it and the one that ended
+/// it, if any.
+#[derive(Clone, Copy, Debug, PartialEq, Eq)]
+pub struct Stamp {
+    pub inserter: u64,
+    pub ender: Option<u64>,
 }
 
 /// The status of every xid that was given.
@@ -135,6 +144,46 @@ impl XactTable {
         self.xacts[(xid - FIRST_XID) as usize].state()
     }
 
+    /// Whether the transaction with this xid has committed.
+    pub fn has_committed(&self, xid: u64) -> bool
+        requires { IsAssigned self.now xid }
+        ensures { result ≡ is_committed self.now xid }
+    {
+        matches!(self.status(xid), XactState::Committed { .. })
+    }
+
+    /// Whether the transaction with this xid has aborted.
+    pub fn has_aborted(&self, xid: u64) -> bool
+        requires { IsAssigned self.now xid }
+        ensures { result ≡ is_aborted self.now xid }
+    {
+        matches!(self.status(xid), XactState::Aborted)
+    }
+
+    /// Whether the change of a transaction counts at this moment for one with the xid `own`, or for one
+    /// without an xid: it is its own, or has committed.
+    fn counts_for(&self, own: Option<u64>, xid: u64) -> bool
+        requires { IsAssigned self.now xid }
+        ensures { result ≡ counts_for self.now own xid }
+    {
+        own == Some(xid) || self.has_committed(xid)
+    }
+
+    /// Whether what bears a stamp is there at this moment for a transaction with the xid `own`, or for one
+    /// without an xid: its inserter is that xid or has committed, and its ender neither.
+    pub fn is_current(&self, stamp: Stamp, own: Option<u64>) -> bool
+        requires { IsStampAssigned self.now stamp }
+        ensures { result ≡ is_current self.now own stamp }
+    {
+        if !self.counts_for(own, stamp.inserter) {
+            return false;
+        }
+        match stamp.ender {
+            Some(ender) => !self.counts_for(own, ender),
+            None => true,
+        }
+    }
+
     /// The xid that is given next. All that were given are below it.
     pub fn next(&self) -> u64
         ensures next { result ≡ next_xid self.now }
@@ -183,7 +232,7 @@ fn end(xacts: &mut Vec<Xact>, running: &mut Vec<u64>, xid: u64, ended: Xact)
 
 #[cfg(test)]
 mod tests {
-    use super::{XactState, XactTable};
+    use super::{Stamp, XactState, XactTable};
     use std::alloc::AllocError;
 
     #[test]
@@ -203,6 +252,12 @@ mod tests {
         assert_eq!(rt; table.status(second), XactState::Committed { number: 2 });
         assert_eq!(rt; table.status(third), XactState::Committed { number: 1 });
         assert_eq!(rt; table.next(), 6);
+        let stamp = Stamp {
+            inserter: third,
+            ender: Some(first),
+        };
+        assert!(rt; table.is_current(stamp, None) && table.has_committed(third));
+        assert!(rt; !table.is_current(stamp, Some(first)) && table.has_aborted(first));
         Ok(())
     }
 }

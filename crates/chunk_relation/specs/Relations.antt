@@ -1,11 +1,12 @@
 -- A relation of chunks.
-use Rattle.std.specs.Prelude.{ℕ, List, map, slice_set, Option}
+use Rattle.std.specs.Prelude.{ℕ, List, Option}
 use Rattle.slot_page.specs.declared.line.Tid.{Tid}
 use Rattle.slot_page.specs.declared.line.LinePointer.{LinePointer}
-use Rattle.slot_page.specs.Pages.{page_at, slot_of, item_in, written}
+use Rattle.slot_page.specs.Pages.{slot_of, item_in, written}
 use Rattle.xact_status.specs.Xacts.{Xacts}
 use Rattle.chunk_relation.specs.declared.chunk.Chunk.{Chunk}
-use Rattle.chunk_relation.specs.Chunks.{IsLineAssigned, ended, pruned}
+use Rattle.chunk_relation.specs.Chunks.{chunk_stamp, ended}
+use Rattle.heap_prune.specs.Prunes as prunes
 
 -- pages of slots, each with what stands in it
 abbrev pub Pages : Type 0
@@ -26,8 +27,8 @@ with_ended xid pages tid = written pages tid (ended xid (slot_of pages tid))
 
 -- the pages with one of them pruned ("Routine Vacuuming, Recovering Disk Space")
 abbrev pub with_pruned : Xacts → ℕ → Pages → ℕ → Pages
-with_pruned xacts horizon pages page = slice_set pages page (map (pruned xacts horizon) (page_at pages page))
+with_pruned xacts horizon pages page = prunes.with_pruned chunk_stamp xacts horizon pages page
 
 -- the transactions that the chunks of a relation name were given their xids
-pub record AreAssigned (xacts : Xacts) (pages : Pages) : Type 0 where
-  pub each : (tid : Tid) → IsLineAssigned xacts (slot_of pages tid)
+abbrev pub AreAssigned : Xacts → Pages → Type 0
+AreAssigned xacts pages = prunes.AreAssigned chunk_stamp xacts pages

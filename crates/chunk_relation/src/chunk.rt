@@ -1,10 +1,10 @@
 //! A chunk, and what it tells of itself.
 
 ghost use Rattle.std.specs.Prelude.{◌≡◌};
-ghost use Rattle.xact_status.specs.Xacts.{IsAssigned, is_aborted, is_committed};
 
+use heap_prune::Stamped;
 use toast_io::Bytes;
-use xact_status::{XactState, XactTable};
+use xact_status::Stamp;
 
 /// A piece of a value, as its slot holds it.
 #[derive(Debug, Drop)]
@@ -33,7 +33,7 @@ pub struct ChunkView<'a> {
 }
 
 impl Chunk {
-    ghost use Rattle.chunk_relation.specs.Chunks.{chunk_shown, is_dead_chunk, IsChunkAssigned};
+    ghost use Rattle.chunk_relation.specs.Chunks.{chunk_shown};
 
     pub(crate) fn view(&self) -> ChunkView<'_>
         ensures { chunk_shown result ≡ self.now }
@@ -46,33 +46,17 @@ impl Chunk {
             bytes: self.bytes.as_slice(),
         }
     }
+}
 
-    /// Whether no reader can see the chunk, now or later, where every snapshot's least running xid is at
-    /// least the horizon.
-    pub(crate) fn is_dead(&self, xacts: &XactTable, horizon: u64) -> bool
-        requires { IsChunkAssigned xacts.now self.now }
-        ensures { result ≡ is_dead_chunk xacts.now horizon self.now }
-    {
-        if has_aborted(xacts, self.inserter) {
-            return true;
-        }
-        match self.ender {
-            Some(ender) => ender < horizon && has_committed(xacts, ender),
-            None => false,
+impl Stamped for Chunk {
+    ghost use Rattle.chunk_relation.specs.Chunks.{chunk_stamp};
+
+    ghost stamp_of = { chunk_stamp };
+
+    fn stamp(&self) -> Stamp {
+        Stamp {
+            inserter: self.inserter,
+            ender: self.ender,
         }
     }
-}
-
-fn has_aborted(xacts: &XactTable, xid: u64) -> bool
-    requires { IsAssigned xacts.now xid }
-    ensures { result ≡ is_aborted xacts.now xid }
-{
-    matches!(xacts.status(xid), XactState::Aborted)
-}
-
-fn has_committed(xacts: &XactTable, xid: u64) -> bool
-    requires { IsAssigned xacts.now xid }
-    ensures { result ≡ is_committed xacts.now xid }
-{
-    matches!(xacts.status(xid), XactState::Committed { .. })
 }

@@ -9,15 +9,10 @@
 #![tactic(auto)]
 
 mod chunk;
-mod pages;
 mod relation;
 #[cfg(test)]
 mod tests;
 
 pub use chunk::{Chunk, ChunkView};
-use list_facts::ListOf;
 pub use relation::ChunkRel;
-use slot_page::Tid;
-
-/// A list of tids.
-pub type TidList = ListOf<Tid>;
+pub use slot_page::TidList;

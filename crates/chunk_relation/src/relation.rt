@@ -2,16 +2,17 @@
 
 ghost use Rattle.std.specs.Prelude.{◌≡◌, ◌≤◌, ◌<◌, ◌++◌, [], count_by, length, IfOk, OnOk, OnErr};
 ghost use Rattle.std.specs.Option.{option_map};
-ghost use Rattle.slot_page.specs.Slots.{IsDead, IsNormal};
+ghost use Rattle.slot_page.specs.Slots.{IsDead, IsNormal, most_slots};
 ghost use Rattle.slot_page.specs.Pages.{page_at, put_tid, slot_of, with_put_on, written};
 ghost use Rattle.slot_page.specs.declared.line.LinePointer.{LinePointer};
-ghost use Rattle.chunk_relation.specs.Chunks.{chunk_shown, chunk_size, is_newly_dead, most_bytes, new_chunk};
+ghost use Rattle.chunk_relation.specs.Chunks.{chunk_shown, chunk_tuple_size, is_newly_dead, new_chunk};
+ghost use Rattle.slice_fetch.specs.Spans.{chunk_size};
 ghost use Rattle.slot_page.specs.DeadSlots.{dead_tids};
 ghost use Rattle.chunk_relation.specs.Relations.{AreAssigned, chunk_of, with_ended, with_pruned};
 
 use crate::TidList;
 use crate::chunk::{Chunk, ChunkView};
-use crate::pages::{add_dead, prune};
+use heap_prune::prune_page;
 use slot_page::{PageList, Tid};
 use std::alloc::{AllocError, Global};
 use std::marker::Model;
@@ -65,6 +66,15 @@ impl ChunkRel {
         self.pages.len()
     }
 
+    /// The number of slots of a page, unused ones included: at most 291.
+    pub fn slots(&self, page: u64) -> u16
+        requires { page < length self.now.pages }
+        ensures count { result ≡ length (page_at self.now.pages page) }
+        ensures most { result ≤ most_slots }
+    {
+        self.pages.page(page).len()
+    }
+
     /// Puts a chunk, of 1 to 1,996 bytes, on the lowest page where it fits, else on a new one, and
     /// answers its tid. Where there is no memory, the relation stays.
     pub fn put_chunk(
@@ -75,9 +85,9 @@ impl ChunkRel {
         bytes: &[u8],
     ) -> Result<Tid, AllocError>
         requires least { 1 ≤ length bytes.now }
-        requires most { length bytes.now ≤ most_bytes }
-        ensures tid { IfOk result (λ tid. tid ≡ put_tid (chunk_size (length bytes.now)) self.old.pages) }
-        ensures put { OnOk result (self.new ≡ record self.old { pages = with_put_on (chunk_size (length bytes.now)) (new_chunk value_id seq inserter bytes.now) self.old.pages }) }
+        requires most { length bytes.now ≤ chunk_size }
+        ensures tid { IfOk result (λ tid. tid ≡ put_tid (chunk_tuple_size (length bytes.now)) self.old.pages) }
+        ensures put { OnOk result (self.new ≡ record self.old { pages = with_put_on (chunk_tuple_size (length bytes.now)) (new_chunk value_id seq inserter bytes.now) self.old.pages }) }
         ensures unchanged { OnErr result (self.new ≡ self.old) }
     {
         let size = OVERHEAD + bytes.len() as u16;
@@ -122,18 +132,17 @@ impl ChunkRel {
     ) -> Result<u32, AllocError>
         requires there { page < length self.old.pages }
         requires assigned { AreAssigned xacts.now self.old.pages }
+
+        // What Ok answers, and what is then pruned and gathered.
         ensures count { IfOk result (λ count. count ≡ count_by (is_newly_dead xacts.now horizon) (page_at self.old.pages page)) }
         ensures pruned { OnOk result (self.new ≡ record self.old { pages = with_pruned xacts.now horizon self.old.pages page }) }
         ensures gathered { OnOk result (dead.new ≡ dead.old ++ dead_tids page (page_at self.new.pages page)) }
+
+        // Where there is no memory, all is as before.
         ensures unchanged { OnErr result (self.new ≡ self.old) }
         ensures list { OnErr result (dead.new ≡ dead.old) }
     {
-        let before = dead.len();
-        add_dead(self.pages.page(page), page, xacts, horizon, dead)?;
-        if dead.len() == before {
-            return Ok(0);
-        }
-        Ok(prune(self.pages.page_mut(page), xacts, horizon))
+        prune_page(&mut self.pages, page, xacts, horizon, dead)
     }
 
     /// Frees a dead slot for another chunk.

@@ -1,6 +1,4 @@
 ghost use Rattle.std.specs.Prelude.{◌≡◌, [], IfOk, length};
-ghost use Rattle.slot_page.specs.Slots.{IsNormal};
-ghost use Rattle.slot_page.specs.Pages.{slot_of};
 ghost use Rattle.xact_status.specs.Xacts.{next_xid};
 ghost use Rattle.chunk_relation.specs.Relations.{AreAssigned};
 
@@ -43,8 +41,7 @@ fn put(
     len: usize,
 ) -> Result<Tid, AllocError>
     requires { AreAssigned xacts.now rel.old.pages }
-    ensures assigned { AreAssigned xacts.now rel.new.pages }
-    ensures there { IfOk result (λ tid. IsNormal (slot_of rel.new.pages tid)) }
+    ensures { AreAssigned xacts.now rel.new.pages }
 {
     assert!(rt; 1 <= len);
     assert!(rt; len <= 1996);
@@ -72,17 +69,6 @@ fn put_each(
     Ok(())
 }
 
-/// Ends the chunk at a tid.
-fn end(rt: &impl Abort, rel: &mut ChunkRel, xacts: &XactTable, tid: Tid, xid: u64)
-    requires chunks { AreAssigned xacts.now rel.old.pages }
-    requires there { IsNormal (slot_of rel.old.pages tid) }
-    ensures { AreAssigned xacts.now rel.new.pages }
-{
-    assert!(rt; 3 <= xid);
-    assert!(rt; xid < xacts.next());
-    rel.set_ender(tid, xid);
-}
-
 /// Prunes the first page and frees the first of its dead slots; answers how many are new.
 fn prune_and_reap(
     rt: &impl Abort,
@@ -103,25 +89,6 @@ fn prune_and_reap(
             Ok(count)
         }
         None => Ok(count),
-    }
-}
-
-/// How many chunks a prune takes of one that was put by the second transaction and ended by another, if any.
-fn pruned(
-    rt: &impl Abort,
-    alloc: Global,
-    xacts: &XactTable,
-    ender: Option<u64>,
-    horizon: u64,
-) -> Result<u32, AllocError> {
-    let mut rel = ChunkRel::new(alloc, 8193);
-    let tid = put(rt, alloc, &mut rel, xacts, 4, 1)?;
-    match ender {
-        Some(xid) => {
-            end(rt, &mut rel, xacts, tid, xid);
-            prune_and_reap(rt, alloc, &mut rel, xacts, horizon)
-        }
-        None => prune_and_reap(rt, alloc, &mut rel, xacts, horizon),
     }
 }
 
@@ -146,6 +113,7 @@ fn four_full_chunks_fill_a_page(rt: HostRuntime) -> Result<(), AllocError> {
     ];
     put_each(&rt, alloc, &mut rel, &xacts, &puts)?;
     assert!(rt; rel.pages() == 2);
+    assert!(rt; rel.slots(0) == 4 && rel.slots(1) == 2);
     Ok(())
 }
 
@@ -189,24 +157,6 @@ fn a_slot_is_used_again_once_it_is_reaped(rt: HostRuntime) -> Result<(), AllocEr
         (4, 1996, at(1, 1)),
     ];
     put_each(&rt, alloc, &mut rel, &xacts, &puts)
-}
-
-/// A chunk that the second transaction, which has committed, has put is dead where a committed
-/// transaction below the horizon has ended it: not where the ender runs, has aborted, or is the horizon.
-#[test]
-fn a_prune_takes_what_no_reader_can_see(rt: HostRuntime) -> Result<(), AllocError> {
-    let alloc = rt.alloc();
-    let xacts = three_xacts(&rt, alloc)?;
-    for (ender, horizon, count) in [
-        (None, 6, 0),
-        (Some(3), 6, 0),
-        (Some(4), 5, 1),
-        (Some(4), 4, 0),
-        (Some(5), 6, 0),
-    ] {
-        assert!(rt; pruned(&rt, alloc, &xacts, ender, horizon)? == count);
-    }
-    Ok(())
 }
 
 #[test]

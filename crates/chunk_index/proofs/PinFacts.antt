@@ -65,7 +65,7 @@ pin_of-without (p ∷ ps) session other = by_tests (p.session == session) (p.ses
     by_tests false false asked e f g rest = ap (λ b. option_map (λ (q : Pin). q.leaf) (cond b (Some p) (find (λ q. q.session == other) (without_pin ps session)))) f ∙ rest ∙ ap (λ b. cond b None (pin_of ps other)) g
 
 -- what is true of each element is true of one that the list holds
-all_in : {X : Type 0} (P : X → Type 0) (xs : List X) (x : X) → AllByRecursion P xs → Contains xs x → P x
+pub all_in : {X : Type 0} (P : X → Type 0) (xs : List X) (x : X) → AllByRecursion P xs → Contains xs x → P x
 all_in P [] x all held = absurd (none_in_nil x held)
 all_in P (y ∷ ys) x all held = elim (cases_in y ys x held) [ inl is ↦ subst P is all.0 | inr later ↦ all_in P ys x all.1 later ]
 
@@ -120,3 +120,15 @@ pin_of-batch index session (first ∷ rest) other none differ = pin_of-with inde
 -- a session has no pin once it is dropped
 pub pin_dropped : (pins : List Pin) (session : ℕ) → pin_of (without_pin pins session) session ≡ None
 pin_dropped pins session = pin_of-without pins session session ∙ grind (arith, nat_tests)
+
+-- the pin of a session is one of the pins
+pub pin_held : (pins : List Pin) (session : ℕ) (leaf : Leaf) → pin_of pins session ≡ Some leaf → Contains pins (record { session = session; leaf = leaf })
+pin_held [] session leaf is = absurd (none-some leaf is)
+pin_held (p ∷ ps) session leaf is = by_test (p.session == session) refl is (λ rest. pin_held ps session leaf rest)
+  where
+    by_test : (b : Bool) → (p.session == session) ≡ b → option_map (λ (q : Pin). q.leaf) (cond b (Some p) (find (λ q. q.session == session) ps)) ≡ Some leaf → (pin_of ps session ≡ Some leaf → Contains ps (record { session = session; leaf = leaf })) → Contains (p ∷ ps) (record { session = session; leaf = leaf })
+    by_test true same found rest =
+        let own : p.session ≡ session = grind (arith, nat_tests) in
+        let of_leaf : p.leaf ≡ leaf = same_Some p.leaf leaf found in
+        first_in p ps (record { session = session; leaf = leaf }) (λ i. record { session = own i; leaf = of_leaf i })
+    by_test false differ found rest = later_in p ps (record { session = session; leaf = leaf }) (rest found)

@@ -1,5 +1,5 @@
 -- What is true of an index stays true through each call.
-use Rattle.std.proofs.Common.{◌≡◌, ◌≢◌, inl, inr, ℕ, Bool, true, false, not, cond, Option, Some, None, List, [], ◌∷◌, filter, find, Contains, ◌==◌, nat_lt, get_or, refl, sym, ap, ◌∙◌, arith}
+use Rattle.std.proofs.Common.{◌≡◌, ◌≢◌, inl, inr, ℕ, Bool, true, false, not, cond, Option, Some, None, List, [], ◌∷◌, find, Contains, ◌==◌, nat_lt, get_or, refl, sym, ap, ◌∙◌, arith}
 use Rattle.std.specs.Option.{option_map}
 use Rattle.std.specs.List.{insert, position_or_len}
 use Rattle.std.specs.Ordering.{is_lt, nat_cmp}
@@ -11,13 +11,13 @@ use Rattle.std.proofs.lemmas.List.Kept.{IsStrictlySortedBy-filter}
 use Rattle.std.specs.Cmp.{IsTotalOrder}
 use Rattle.chunk_index.specs.declared.entry.Entry.{Entry}
 use Rattle.chunk_index.specs.declared.entry.Pin.{Pin}
-use Rattle.chunk_index.specs.Entries.{entry_cmp, with_entry}
 use Rattle.chunk_index.specs.Leaves.{Leaf}
 use Rattle.chunk_index.specs.Pinned.{pin_cmp, pin_of, with_pin, without_pin}
+use Rattle.chunk_index.specs.Nodes.{Content}
+use Rattle.chunk_index.specs.Places.{IsContent}
 use Rattle.chunk_index.specs.Indexes.{IsIndex, IsLeaf}
 use Rattle.list_facts.proofs.Members.{none_in_nil, cases_in, filter_holds}
 use Rattle.chunk_index.proofs.Inserted.{IsStrictlySortedBy-inserted, inserted_at, inserted_holds}
-use Rattle.chunk_index.proofs.Ordered.{entry_total, entry_equal}
 
 -- the order of pins is total
 pub pin_total : IsTotalOrder pin_cmp
@@ -59,29 +59,23 @@ pin_placed pins session place leaf is = rw is (inserted_at pin_cmp (record { ses
     (λ k d below. lt_is session (get_or pins k d).session ∙ fails_before_first (λ p. nat_lt session p.session) pins k d below)
     (λ d within. lt_is session (get_or pins (position_or_len (λ p. nat_lt session p.session) pins) d).session ∙ passes_at_first (λ p. nat_lt session p.session) pins d within))
 
-pub sound_empty : IsIndex (record { entries = []; bounds = []; pins = [] })
-unfolding IsStrictlySortedBy
-sound_empty = record { entries_sorted = tt; bounds_sorted = tt; pins_sorted = tt; pinned = λ pin held. absurd (none_in_nil pin held) }
-
-pub sound_insert : (entries bounds : List Entry) (pins : List Pin) (e : Entry) → (Contains entries e → ⊥) → IsIndex (record { entries = entries; bounds = bounds; pins = pins }) → IsIndex (record { entries = with_entry entries e; bounds = bounds; pins = pins })
-sound_insert entries bounds pins e new sound = record {
-  entries_sorted = IsStrictlySortedBy-inserted entry_total e entries sound.entries_sorted (λ f held equal. new (rw (entry_equal e f equal) held));
-  bounds_sorted = sound.bounds_sorted;
-  pins_sorted = sound.pins_sorted;
-  pinned = sound.pinned;
-}
-
-pub sound_entries : (p : Entry → Bool) (entries bounds : List Entry) (pins : List Pin) → IsIndex (record { entries = entries; bounds = bounds; pins = pins }) → IsIndex (record { entries = filter p entries; bounds = bounds; pins = pins })
-sound_entries p entries bounds pins sound = record {
-  entries_sorted = IsStrictlySortedBy-filter entry_cmp p entries sound.entries_sorted;
-  bounds_sorted = sound.bounds_sorted;
-  pins_sorted = sound.pins_sorted;
-  pinned = sound.pinned;
-}
-
 -- the pins stay in order with one more
 pub pins_with : (pins : List Pin) (session : ℕ) (leaf : Leaf) → pin_of pins session ≡ None → IsStrictlySortedBy pin_cmp pins → IsStrictlySortedBy pin_cmp (with_pin pins session leaf)
 pins_with pins session leaf none sorted = IsStrictlySortedBy-inserted pin_total (record { session = session; leaf = leaf }) pins sorted (λ pin held equal. no_pin pins session pin none held (grind (arith, nat_tests, equal)))
+
+-- an index of leaves and pins
+pub sound_of : (content : Content) (pins : List Pin) → IsContent content → IsStrictlySortedBy pin_cmp pins → ((pin : Pin) → Contains pins pin → IsLeaf content.bounds pin.leaf) → IsIndex (record { entries = content.entries; bounds = content.bounds; pins = pins })
+sound_of content pins is sorted pinned = record {
+  entries_sorted = is.entries_sorted;
+  bounds_sorted = is.bounds_sorted;
+  pins_sorted = sorted;
+  pinned = pinned;
+  within = is.within;
+}
+
+pub sound_empty : IsIndex (record { entries = []; bounds = []; pins = [] })
+unfolding IsStrictlySortedBy
+sound_empty = record { entries_sorted = tt; bounds_sorted = tt; pins_sorted = tt; pinned = λ pin held. absurd (none_in_nil pin held); within = λ leaf is. omega arith }
 
 pub sound_pin : (entries bounds : List Entry) (pins : List Pin) (session : ℕ) (leaf : Leaf) → pin_of pins session ≡ None → IsLeaf bounds leaf → IsIndex (record { entries = entries; bounds = bounds; pins = pins }) → IsIndex (record { entries = entries; bounds = bounds; pins = with_pin pins session leaf })
 sound_pin entries bounds pins session leaf none is_leaf sound = record {
@@ -92,6 +86,7 @@ sound_pin entries bounds pins session leaf none is_leaf sound = record {
     | inl there ↦ sound.pinned pin there
     | inr is ↦ rw (← is) is_leaf
   ];
+  within = sound.within;
 }
 
 pub sound_unpin : (entries bounds : List Entry) (pins : List Pin) (session : ℕ) → IsIndex (record { entries = entries; bounds = bounds; pins = pins }) → IsIndex (record { entries = entries; bounds = bounds; pins = without_pin pins session })
@@ -100,4 +95,5 @@ sound_unpin entries bounds pins session sound = record {
   bounds_sorted = sound.bounds_sorted;
   pins_sorted = IsStrictlySortedBy-filter pin_cmp (λ p. not (p.session == session)) pins sound.pins_sorted;
   pinned = λ pin held. sound.pinned pin (filter_holds (λ p. not (p.session == session)) pins pin held).0;
+  within = sound.within;
 }

@@ -1,5 +1,5 @@
 -- Where the entries that are asked for stand among all.
-use Rattle.std.proofs.Common.{◌≡◌, inl, inr, ℕ, ◌<◌, ◌≤◌, ◌+◌, ◌-◌, Bool, true, false, not, ◌&&◌, ◌||◌, ◌==◌, nat_lt, nat_le, if◌then◌else◌, Option, Some, None, List, length, get_or, slice_get, take, drop, sym, ap, ◌∙◌, arith}
+use Rattle.std.proofs.Common.{◌≡◌, inl, inr, ℕ, ◌<◌, ◌≤◌, ◌+◌, Bool, true, false, not, ◌&&◌, ◌||◌, ◌==◌, nat_lt, nat_le, if◌then◌else◌, Option, Some, None, List, length, get_or, slice_get, take, drop, ap, ◌∙◌, arith}
 use Rattle.std.specs.Option.{option_and_then}
 use Rattle.std.specs.List.Sorted.{IsStrictlySortedBy, IsPartitionPoint}
 use Rattle.std.specs.declared.cmp.Ordering.TheVariants.{Less}
@@ -7,7 +7,7 @@ use Rattle.std.specs.Ordering.{is_gt}
 use Rattle.std.proofs.lemmas.Bool.{cases_eq, or_cases, or_left, or_right, not_from_false, not-true}
 use Rattle.std.proofs.lemmas.Bool.Decides.{nat_tests}
 use Rattle.std.proofs.lemmas.Cmp.{upto}
-use Rattle.std.proofs.lemmas.List.{get_or-drop, length-drop, take_rest}
+use Rattle.std.proofs.lemmas.List.{get_or-drop, length-drop}
 use Rattle.chunk_index.specs.declared.entry.Entry.{Entry}
 use Rattle.chunk_index.specs.Entries.{entry_cmp, of_id, is_after, is_wanted, wanted_of, falls_short, comes_before, reaches}
 use Rattle.chunk_index.proofs.Ordered.{entry_total}
@@ -44,11 +44,8 @@ reaches_down value_id to e f less within = of_numbers e.value_id f.value_id e.se
     of_numbers : (i j s t : ℕ) → i ≤ j → (i ≡ j → s ≤ t) → (nat_lt j value_id || (j == value_id) && nat_le t to) ≡ true → (nat_lt i value_id || (i == value_id) && nat_le s to) ≡ true
     of_numbers i j s t at_most same holds = grind (arith, nat_tests, cases_eq i j, same)
 
-pub id_down : (value_id : ℕ) (e f : Entry) → entry_cmp e f ≡ Less → nat_lt f.value_id value_id ≡ true → nat_lt e.value_id value_id ≡ true
-id_down value_id e f less below = grind (arith, nat_tests, less_id e f less)
-
 -- an entry is wanted where it neither comes before all that are wanted nor is beyond them
-wanted_is : (value_id from to : ℕ) (after : Option Entry) (e : Entry) → is_wanted value_id from to after e ≡ (not (comes_before value_id from after e) && reaches value_id to e)
+pub wanted_is : (value_id from to : ℕ) (after : Option Entry) (e : Entry) → is_wanted value_id from to after e ≡ (not (comes_before value_id from after e) && reaches value_id to e)
 wanted_is value_id from to after e = of_numbers e.value_id e.seq (is_after after e)
   where
     of_numbers : (i s : ℕ) (b : Bool) → ((i == value_id) && nat_le from s && nat_le s to && b) ≡ (not ((nat_lt i value_id || (i == value_id) && nat_lt s from) || not b) && (nat_lt i value_id || (i == value_id) && nat_le s to))
@@ -78,10 +75,3 @@ nth_is value_id entries i n sorted within parts =
           let upper = from_value k d (omega (arith, at_most, inside)) in
           grind (arith, nat_tests)
     ]
-
--- the same in the names of the call that looks for it
-pub nth_found : (value_id : ℕ) (entries : List Entry) (i n : ℕ) (found : Option Entry) → IsStrictlySortedBy entry_cmp entries → i ≤ length entries → IsPartitionPoint (λ e. nat_lt e.value_id value_id ≡ true) (λ e. nat_lt e.value_id value_id ≡ false) entries i
-    → found ≡ slice_get (take (length entries - i) (drop i entries)) n → option_and_then (λ e. if e.value_id == value_id then Some e else None) found ≡ slice_get (of_id value_id entries) n
-nth_found value_id entries i n found sorted within parts is =
-    ap (option_and_then (λ e. if e.value_id == value_id then Some e else None)) (is ∙ ap (λ es. slice_get es n) (take_rest entries i))
-    ∙ sym (nth_is value_id entries i n sorted within parts)

@@ -1,5 +1,5 @@
 -- An index of chunks: its entries in order, its leaves, and its pins.
-use Rattle.std.specs.Prelude.{ℕ, Bool, not, ◌&&◌, ◌⊎◌, ⊤, Some, None, List, [], ◌∷◌, Contains, filter, count_by}
+use Rattle.std.specs.Prelude.{ℕ, ◌≤◌, Bool, not, ◌&&◌, ⊤, Some, None, List, [], ◌∷◌, if◌then◌else◌, nat_le, length, slice_get, Contains, filter, count_by}
 use Rattle.std.specs.Option.{option_map_or}
 use Rattle.std.specs.List.Sorted.{IsStrictlySortedBy}
 use Rattle.slot_page.specs.declared.line.Tid.{Tid}
@@ -8,7 +8,8 @@ use Rattle.chunk_index.specs.declared.entry.Pin.{Pin}
 use Rattle.chunk_index.specs.declared.entry.Swept.{Swept}
 use Rattle.chunk_index.specs.declared.entry.Swept.TheVariants.{Next, End, Pinned}
 use Rattle.slot_page.specs.Tids.{is_listed}
-use Rattle.chunk_index.specs.Entries.{entry_cmp}
+use Rattle.chunk_index.specs.declared.entry.TheConstants.{LEAF_ENTRIES, LOWER_ENTRIES}
+use Rattle.chunk_index.specs.Entries.{entry_cmp, with_entry}
 use Rattle.chunk_index.specs.Leaves.{Leaf, in_leaf, leaf_of, next_bound, bounds_left}
 use Rattle.chunk_index.specs.Pinned.{pin_cmp, with_pin, holder_of}
 
@@ -23,17 +24,25 @@ abbrev pub IsLeaf : List Entry → Leaf → Type 0
 IsLeaf bounds None = ⊤
 IsLeaf bounds (Some bound) = Contains bounds bound
 
--- what is true of each index: all is in order, and what is pinned is a leaf
+-- the entries of a leaf
+abbrev pub entries_of : List Entry → Leaf → List Entry → List Entry
+entries_of bounds leaf entries = filter (in_leaf bounds leaf) entries
+
+-- what is true of each index: all is in order, what is pinned is a leaf, and no leaf has too many entries
 pub record IsIndex (index : Index) : Type 0 where
   pub entries_sorted : IsStrictlySortedBy entry_cmp index.entries
   pub bounds_sorted : IsStrictlySortedBy entry_cmp index.bounds
   pub pins_sorted : IsStrictlySortedBy pin_cmp index.pins
   pub pinned : (pin : Pin) → Contains index.pins pin → IsLeaf index.bounds pin.leaf
+  pub within : (leaf : Leaf) → IsLeaf index.bounds leaf → length (entries_of index.bounds leaf index.entries) ≤ LEAF_ENTRIES
 
--- leaves are only split: each bound stays, and a new one is an entry
-pub record AddsBounds (old new : Index) : Type 0 where
-  pub kept : (bound : Entry) → Contains old.bounds bound → Contains new.bounds bound
-  pub new_ones : (bound : Entry) → Contains new.bounds bound → Contains old.bounds bound ⊎ Contains new.entries bound
+-- the bounds once a leaf has come to have these entries: where they are too many, the leaf is split, and the first entry of the upper leaf is one more bound
+abbrev pub bounds_split : List Entry → List Entry → List Entry
+bounds_split bounds own = if nat_le (length own) LEAF_ENTRIES then bounds else option_map_or (with_entry bounds) (slice_get own LOWER_ENTRIES) bounds
+
+-- the bounds with one more entry, of which its leaf may have to be split
+abbrev pub bounds_with : List Entry → List Entry → Entry → List Entry
+bounds_with bounds entries e = bounds_split bounds (entries_of bounds (leaf_of bounds e) (with_entry entries e))
 
 -- of entries that are wanted, in order, those that lie in the leaf of the first
 abbrev pub batch_of : List Entry → List Entry → List Entry

@@ -54,3 +54,9 @@ leaf_at bounds (Some e) = leaf_of bounds e
 -- the bounds once a leaf has these entries left of all: a leaf other than the first that is empty is no leaf any more
 abbrev pub bounds_left : List Entry → Leaf → List Entry → List Entry
 bounds_left bounds leaf entries = if list_any (in_leaf bounds leaf) entries then bounds else filter (λ bound. not (same_leaf (Some bound) leaf)) bounds
+
+-- whether a leaf is not after another one
+abbrev pub is_at_most : Leaf → Leaf → Bool
+is_at_most None other = true
+is_at_most (Some bound) None = false
+is_at_most (Some bound) (Some other) = is_from (Some bound) other

@@ -1,7 +1,10 @@
 //! Entries, and what the calls of the index answer.
 
+ghost use Rattle.std.specs.Prelude.{◌≡◌, [], false};
+
 use list_facts::ListOf;
 use slot_page::Tid;
+use std::alloc::Global;
 
 /// An entry: a chunk of the value with this id lies at the tid. Entries are ordered by their fields.
 #[derive(Clone, Copy, Debug, PartialEq, Eq, PartialOrd, Ord)]
@@ -12,6 +15,12 @@ pub struct Entry {
     pub tid: Tid,
 }
 
+/// How many entries a leaf has at most.
+pub const LEAF_ENTRIES: usize = 64;
+
+/// How many entries the lower leaf keeps when a leaf is split.
+pub const LOWER_ENTRIES: usize = 33;
+
 /// A list of entries.
 pub type EntryList = ListOf<Entry>;
 
@@ -21,6 +30,18 @@ pub struct Batch {
     pub entries: EntryList,
     /// Whether a wanted entry is left beyond them.
     pub more: bool,
+}
+
+impl Batch {
+    /// No entry, where none is wanted.
+    pub(crate) fn none(alloc: Global) -> Self
+        ensures { result ≡ record { entries = []; more = false } }
+    {
+        Batch {
+            entries: EntryList::new(alloc),
+            more: false,
+        }
+    }
 }
 
 /// A session and the leaf that it has pinned. A leaf is named by its least bound; the first leaf has none.

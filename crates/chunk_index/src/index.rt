@@ -1,63 +1,38 @@
 //! The index.
 
-ghost use Rattle.std.specs.Prelude.{◌≡◌, ◌==◌, ◌<◌, [], Contains, None, Some, if◌then◌else◌, length, nat_lt, slice_get, IfOk, IfSome, OnErr, OnOk};
+ghost use Rattle.std.specs.Prelude.{◌≡◌, ◌<◌, [], Contains, None, length, nat_lt, slice_get, IfOk, IfSome, OnErr, OnOk};
 ghost use Rattle.std.specs.List.Sorted.{IsSorted};
 ghost use Rattle.slot_page.specs.Tids.{tid_cmp};
 ghost use Rattle.chunk_index.specs.Entries.{of_id, wanted_of, with_entry};
 ghost use Rattle.chunk_index.specs.Leaves.{leaf_at};
 ghost use Rattle.chunk_index.specs.Pinned.{pin_of, without_pin};
-ghost use Rattle.chunk_index.specs.Indexes.{AddsBounds, IsIndex, after_batch, after_sweep, batch_of, sweep_answer};
+ghost use Rattle.chunk_index.specs.Indexes.{IsIndex, after_batch, after_sweep, batch_of, bounds_with, sweep_answer};
 
 use crate::TidList;
-use crate::entry::{Batch, Entry, EntryList, Swept};
+use crate::entry::{Batch, Entry, Swept};
+use crate::leaves::Leaves;
 use crate::pins::Pins;
-use crate::wanted::{Wanted, start_of};
-use slot_page::is_listed;
+use crate::wanted::Wanted;
 use std::alloc::{AllocError, Global};
 use std::marker::Model;
 
-/// For how many entries an index has memory from the start.
-const FIRST_ROOM: usize = 64;
-
-/// The n-th of some entries, counted from 0.
-fn nth(entries: &[Entry], n: usize) -> Option<Entry>
-    ensures { result ≡ slice_get entries.now n }
-{
-    entries.get(n).copied()
-}
-
-/// An entry, if it is one of a value.
-fn of_value(entry: Entry, value_id: u32) -> Option<Entry>
-    ensures { result ≡ (if entry.value_id == value_id then Some entry else None) }
-{
-    if entry.value_id == value_id {
-        Some(entry)
-    } else {
-        None
-    }
-}
-
-/// The index of a table's chunks. All its entries lie in one leaf.
+/// The index of a table's chunks.
 ///
-/// Contracts see the entries in order, the bounds of the leaves after the first, and the pins. What
-/// they promise holds for any number of leaves.
+/// Contracts see the entries in order, the bounds of the leaves after the first, and the pins.
 #[derive(Debug, Drop)]
 pub struct ChunkIndex {
-    entries: Vec<Entry>,
+    leaves: Leaves,
     pins: Pins,
 }
 
 impl Model for ChunkIndex {
-    ghost use Rattle.std.specs.Prelude.{[]};
-    ghost use Rattle.std.specs.List.Sorted.{IsStrictlySortedBy};
-    ghost use Rattle.chunk_index.specs.Entries.{entry_cmp};
     ghost use Rattle.chunk_index.specs.Indexes.{Index, IsIndex};
 
     ghost Value = { Index };
 
-    ghost view = { λ index. record { entries = index.entries.items; bounds = []; pins = index.pins } };
+    ghost view = { λ index. record { entries = index.leaves.entries; bounds = index.leaves.bounds; pins = index.pins } };
 
-    ghost invariant = { λ index. IsIndex (record { entries = index.entries.items; bounds = []; pins = index.pins }) };
+    ghost invariant = { λ index. IsIndex (record { entries = index.leaves.entries; bounds = index.leaves.bounds; pins = index.pins }) };
 }
 
 impl ChunkIndex {
@@ -67,24 +42,22 @@ impl ChunkIndex {
         ensures sound { IfOk result IsIndex }
     {
         Ok(ChunkIndex {
-            entries: Vec::with_capacity(alloc, FIRST_ROOM)?,
+            leaves: Leaves::new(alloc)?,
             pins: Pins::new(alloc),
         })
     }
 
-    /// Adds an entry that is not there. Where there is no memory, the index stays.
+    /// Adds an entry that is not there. A leaf that it gives too many entries is split, and a pin of it stays
+    /// with the lower part. Where there is no memory, the index stays.
     pub fn insert(&mut self, e: Entry) -> Result<(), AllocError>
         requires { Contains self.old.entries e → ⊥ }
         ensures entries { OnOk result (self.new.entries ≡ with_entry self.old.entries e) }
-        ensures bounds { OnOk result (AddsBounds self.old self.new) }
+        ensures bounds { OnOk result (self.new.bounds ≡ bounds_with self.old.bounds self.old.entries e) }
         ensures pins { self.new.pins ≡ self.old.pins }
         ensures unchanged { OnErr result (self.new ≡ self.old) }
         ensures sound { IsIndex self.new }
     {
-        match self.entries.binary_search(&e) {
-            Ok(_) => unreachable!(),
-            Err(place) => self.entries.insert(place, e)?,
-        }
+        self.leaves.insert(e)?;
         Ok(())
     }
 
@@ -106,21 +79,17 @@ impl ChunkIndex {
         ensures unchanged { OnErr result (self.new ≡ self.old) }
         ensures sound { IsIndex self.new }
     {
-        let alloc = *self.entries.allocator();
         let wanted = Wanted {
             value_id,
             from,
             to,
             after,
         };
-        let batch = Batch {
-            entries: EntryList::from_slice(alloc, wanted.among(&self.entries))?,
-            more: false,
-        };
+        let (batch, leaf) = self.leaves.batch(&wanted)?;
         if batch.entries.is_empty() {
             return Ok(batch);
         }
-        self.pins.pin(session, None)?;
+        self.pins.pin(session, leaf)?;
         Ok(batch)
     }
 
@@ -133,32 +102,33 @@ impl ChunkIndex {
     }
 
     /// The n-th entry of a value, counted from 0, in order. It takes time logarithmic in the number of
-    /// entries.
+    /// leaves, and for a value of many leaves reads the length of each leaf up to the entry.
     pub fn nth_of(&self, value_id: u32, n: usize) -> Option<Entry>
         ensures entry { result ≡ slice_get (of_id value_id self.now.entries) n }
         ensures within { IfSome result (λ _. n < usize.MAX) }
         ensures sound { IsIndex self.now }
     {
-        let rest = &self.entries[start_of(&self.entries, value_id)..];
-        let entry = nth(rest, n)?;
-        of_value(entry, value_id)
+        self.leaves.nth_of(value_id, n)
     }
 
     /// Takes the entries away whose tids are listed from the leaf that `from` lies in, or from the first
-    /// one. The tids are in order. A leaf that a session has pinned stays as it is.
+    /// one. The tids are in order. A leaf that a session has pinned stays as it is. A leaf other than the
+    /// first that is left empty is gone, and the leaf before it has its range.
     pub fn sweep_leaf(&mut self, from: Option<Entry>, dead: &TidList) -> Swept
         requires { IsSorted tid_cmp dead.now }
         ensures answer { result ≡ sweep_answer self.old (leaf_at self.old.bounds from) dead.now }
         ensures swept { self.new ≡ after_sweep self.old (leaf_at self.old.bounds from) dead.now }
         ensures sound { IsIndex self.new }
     {
-        if let Some(holder) = self.pins.holder(&None) {
+        let leaf = self.leaves.leaf_at(&from);
+        if let Some(holder) = self.pins.holder(&leaf) {
             return Swept::Pinned { holder };
         }
-        let before = self.entries.len();
-        self.entries
-            .retain(|entry| !is_listed(dead.as_slice(), &entry.tid));
-        let removed = (before - self.entries.len()) as u64;
-        Swept::End { removed }
+        let (count, next) = self.leaves.sweep(&from, dead);
+        let removed = count as u64;
+        match next {
+            Some(from) => Swept::Next { from, removed },
+            None => Swept::End { removed },
+        }
     }
 }

@@ -9,15 +9,13 @@
 
 mod entry;
 mod index;
+mod leaves;
+mod node;
 mod pins;
 #[cfg(test)]
 mod tests;
 mod wanted;
 
-pub use entry::{Batch, Entry, EntryList, Pin, Swept};
+pub use entry::{Batch, Entry, EntryList, LEAF_ENTRIES, LOWER_ENTRIES, Pin, Swept};
 pub use index::ChunkIndex;
-use list_facts::ListOf;
-use slot_page::Tid;
-
-/// A list of tids.
-pub type TidList = ListOf<Tid>;
+pub use slot_page::TidList;

@@ -1,6 +1,6 @@
 //! Which entries are asked for, and where they lie among all.
 
-ghost use Rattle.std.specs.Prelude.{◌≡◌, ◌≤◌, true, false, length, nat_lt};
+ghost use Rattle.std.specs.Prelude.{◌≡◌, ◌≤◌, None, true, false, length};
 ghost use Rattle.std.specs.List.Sorted.{IsPartitionPoint, IsStrictlySortedBy};
 ghost use Rattle.chunk_index.specs.Entries.{comes_before, entry_cmp, falls_short, is_after, reaches, wanted_of};
 
@@ -33,22 +33,34 @@ fn falls_short(value_id: u32, from: u32, entry: &Entry) -> bool
 }
 
 impl Wanted {
+    /// All entries of a value.
+    pub(crate) fn all_of(value_id: u32) -> Self
+        ensures { result ≡ record { value_id = value_id; from = 0; to = u32.MAX; after = None } }
+    {
+        Wanted {
+            value_id,
+            from: 0,
+            to: u32::MAX,
+            after: None,
+        }
+    }
+
     /// Whether an entry lies before all that are wanted.
-    fn is_ahead(&self, entry: &Entry) -> bool
+    pub(crate) fn is_ahead(&self, entry: &Entry) -> bool
         ensures { result ≡ comes_before self.now.value_id self.now.from self.now.after entry.now }
     {
         falls_short(self.value_id, self.from, entry) || !is_after(&self.after, entry)
     }
 
     /// Whether an entry does not lie beyond all that are wanted.
-    fn reaches(&self, entry: &Entry) -> bool
+    pub(crate) fn reaches(&self, entry: &Entry) -> bool
         ensures { result ≡ reaches self.now.value_id self.now.to entry.now }
     {
         entry.value_id < self.value_id || entry.value_id == self.value_id && entry.seq <= self.to
     }
 
     /// How many entries lie before those that are wanted. It takes time logarithmic in their number.
-    fn start(&self, entries: &[Entry]) -> usize
+    pub(crate) fn start(&self, entries: &[Entry]) -> usize
         requires { IsStrictlySortedBy entry_cmp entries.now }
         ensures start { IsPartitionPoint (λ e. comes_before self.now.value_id self.now.from self.now.after e ≡ true) (λ e. comes_before self.now.value_id self.now.from self.now.after e ≡ false) entries.now result }
         ensures within { result ≤ length entries.now }
@@ -73,13 +85,4 @@ impl Wanted {
         let rest = &entries[self.start(entries)..];
         &rest[..self.count(rest)]
     }
-}
-
-/// How many entries lie before those of a value. It takes time logarithmic in their number.
-pub(crate) fn start_of(entries: &[Entry], value_id: u32) -> usize
-    requires { IsStrictlySortedBy entry_cmp entries.now }
-    ensures start { IsPartitionPoint (λ e. nat_lt e.value_id value_id ≡ true) (λ e. nat_lt e.value_id value_id ≡ false) entries.now result }
-    ensures within { result ≤ length entries.now }
-{
-    entries.partition_point(|entry| entry.value_id < value_id)
 }

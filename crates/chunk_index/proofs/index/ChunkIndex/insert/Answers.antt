@@ -1,23 +1,16 @@
-use Rattle.std.proofs.Common.{◌∙◌}
-use Rattle.chunk_index.proofs.Ordered.{entry_total}
-use Rattle.chunk_index.proofs.Searches.{insert_place}
-use Rattle.chunk_index.proofs.Sound.{sound_insert}
+use Rattle.std.proofs.Common.{sym, subst}
+use Rattle.chunk_index.specs.declared.entry.Pin.{Pin}
+use Rattle.chunk_index.specs.Indexes.{IsLeaf}
+use Rattle.chunk_index.proofs.Sound.{sound_of}
+use Rattle.chunk_index.proofs.Splits.{leaf_kept}
 use Rattle.chunk_index.proofs.index.ChunkIndex.insert.Goals as goal
 
-pub invariant_of-self : goal.invariant_of-self
-invariant_of-self c =
-    let entries = c.self.inside.entries.items in
-    let placed = insert_place entry_total c.args.e entries c.in-Err.place c.self.invariant.entries_sorted (rw c.deref.ensures.value at c.in-Err.ensures.bound) (rw c.deref.ensures.value at c.in-Err.ensures.position) in
-    rw (c.in_ok-insert-in-Err.ensures.items, placed) (sound_insert entries _ c.self.inside.pins c.args.e (rw (← c.self.view_is) at c.requires) c.self.invariant)
-
-pub returns-clause-entries : goal.returns-clause-entries
-returns-clause-entries c =
-    let entries = c.self.inside.entries.items in
-    let placed = insert_place entry_total c.args.e entries c.in-Err.place c.self.invariant.entries_sorted (rw c.deref.ensures.value at c.in-Err.ensures.bound) (rw c.deref.ensures.value at c.in-Err.ensures.position) in
-    rw (← c.self.view_is) (c.in_ok-insert-in-Err.ensures.items ∙ placed)
+pub invariant_of-self-2 : goal.invariant_of-self-2
+invariant_of-self-2 c =
+    let old = c.self.inside.leaves in
+    sound_of c.insert.new.self c.self.inside.pins c.in_ok-insert.ensures.sound c.self.invariant.pins_sorted (λ pin held. subst (λ bs. IsLeaf bs (Pin.leaf pin)) (sym c.in_ok-insert.ensures.bounds) (leaf_kept old.bounds old.entries c.args.e (Pin.leaf pin) (c.self.invariant.pinned pin held)))
 
 pub returns-clause-sound : goal.returns-clause-sound
 returns-clause-sound c =
-    let entries = c.self.inside.entries.items in
-    let placed = insert_place entry_total c.args.e entries c.in-Err.place c.self.invariant.entries_sorted (rw c.deref.ensures.value at c.in-Err.ensures.bound) (rw c.deref.ensures.value at c.in-Err.ensures.position) in
-    rw (c.in_ok-insert-in-Err.ensures.items, placed) (sound_insert entries _ c.self.inside.pins c.args.e (rw (← c.self.view_is) at c.requires) c.self.invariant)
+    let old = c.self.inside.leaves in
+    sound_of c.insert.new.self c.self.inside.pins c.in_ok-insert.ensures.sound c.self.invariant.pins_sorted (λ pin held. subst (λ bs. IsLeaf bs (Pin.leaf pin)) (sym c.in_ok-insert.ensures.bounds) (leaf_kept old.bounds old.entries c.args.e (Pin.leaf pin) (c.self.invariant.pinned pin held)))

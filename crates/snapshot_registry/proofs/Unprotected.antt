@@ -1,11 +1,10 @@
 -- A version that is not protected never becomes so.
-use Rattle.std.proofs.Common.{◌≡◌, ◌≢◌, ◌<◌, ◌≤◌, ◌+◌, ◌-◌, ℕ, Bool, true, false, not, ◌&&◌, ◌||◌, cond, ◌⊎◌, Option, Some, None, ◌==◌, slice_set, refl, sym, ap, ◌∙◌, arith, inl, inr}
+use Rattle.std.proofs.Common.{◌≡◌, ◌≢◌, ◌+◌, ◌-◌, ℕ, Bool, true, false, not, ◌&&◌, ◌||◌, cond, ◌⊎◌, Option, Some, None, ◌==◌, refl, sym, ap, ◌∙◌, arith, inl, inr}
 use mathlib.Core.Bool.{false≢true}
 use Rattle.std.specs.Option.{option_map_or}
 use Rattle.std.proofs.lemmas.Bool.Decides.{nat_tests}
-use Rattle.xact_status.specs.declared.Xact.{Xact}
 use Rattle.xact_status.specs.declared.Xact.TheVariants.{Committed, Aborted}
-use Rattle.xact_status.specs.Xacts.{Xacts, IsAssigned, is_running, is_committed, session_of, commit_count, after_assign, after_commit, after_abort}
+use Rattle.xact_status.specs.Xacts.{Xacts, is_running, is_committed, commit_count, after_assign, after_commit, after_abort}
 use Rattle.xact_status.proofs.Events.{assigned_assign, assigned_set, running_assign, running_set, committed_assign, committed_commit, committed_abort}
 use Rattle.snapshot_registry.specs.Snapshots.{Snaps, seen_by_any, is_protected, after_take, after_share, after_release}
 use Rattle.snapshot_registry.specs.Laws.{IsRegistryOf, IsUnseen, IsUnprotected, UnprotectedStays}

@@ -34,6 +34,17 @@ all_shown_now xacts xid committed = shown (is_committed xacts xid) (holds (runni
     shown : (c h : Bool) (m n : ℕ) → c ≡ true → h ≡ false → m < n → (c && (nat_lt m n && not h)) ≡ true
     shown c h m n is over lt = grind (arith, nat_tests, is, over)
 
+-- and nothing else: a snapshot shows only what has committed
+pub not_shown : (xacts : Xacts) (snapshot : Snapshot) (xid : ℕ) → is_committed xacts xid ≡ false → committed_in xacts snapshot xid ≡ false
+not_shown xacts snapshot xid not_yet = ap (λ c. c && (nat_lt xid snapshot.xmax && not (holds snapshot.running xid))) not_yet
+
+pub shown_now : (xacts : Xacts) (xid : ℕ) → committed_in xacts (snapshot_now xacts) xid ≡ is_committed xacts xid
+shown_now xacts xid = by_test (is_committed xacts xid) refl
+  where
+    by_test : (b : Bool) → is_committed xacts xid ≡ b → committed_in xacts (snapshot_now xacts) xid ≡ is_committed xacts xid
+    by_test true committed = all_shown_now xacts xid committed ∙ sym committed
+    by_test false not_yet = not_shown xacts (snapshot_now xacts) xid not_yet ∙ sym not_yet
+
 -- so it sees no version that a committed transaction has ended, whoever reads
 pub ended_unseen_now : (xacts : Xacts) (inserter ender : ℕ) (own : Option ℕ) → is_committed xacts ender ≡ true → sees xacts (snapshot_now xacts) inserter (Some ender) own ≡ false
 ended_unseen_now xacts inserter ender own committed = ended_unseen xacts (snapshot_now xacts) inserter ender own (all_shown_now xacts ender committed)
@@ -97,7 +108,7 @@ unseen_stays_unseen = record {
 }
 
 -- the two ways to be dead
-dead_cases : (xacts : Xacts) (bound inserter : ℕ) (ender : Option ℕ) → is_dead xacts bound inserter ender ≡ true → (is_aborted xacts inserter ≡ true) ⊎ ((xid : ℕ) × (ender ≡ Some xid) × (is_committed xacts xid ≡ true) × (xid < bound))
+pub dead_cases : (xacts : Xacts) (bound inserter : ℕ) (ender : Option ℕ) → is_dead xacts bound inserter ender ≡ true → (is_aborted xacts inserter ≡ true) ⊎ ((xid : ℕ) × (ender ≡ Some xid) × (is_committed xacts xid ≡ true) × (xid < bound))
 dead_cases xacts bound inserter ender dead = elim (or_cases (is_aborted xacts inserter) _ dead) [
   | inl aborted ↦ inl aborted
   | inr ended ↦ inr (by_ender ender ended)
@@ -124,7 +135,7 @@ shown_below_xmin xacts snapshot xid taken below committed = shown (is_committed 
 
 -- an inserter that has aborted is shown by no snapshot
 aborted_hidden : (xacts : Xacts) (snapshot : Snapshot) (xid : ℕ) → is_aborted xacts xid ≡ true → committed_in xacts snapshot xid ≡ false
-aborted_hidden xacts snapshot xid aborted = ap (λ c. c && (nat_lt xid snapshot.xmax && not (holds snapshot.running xid))) (aborted_is_uncommitted xacts xid aborted)
+aborted_hidden xacts snapshot xid aborted = not_shown xacts snapshot xid (aborted_is_uncommitted xacts xid aborted)
 
 pub dead_unseen : (xacts : Xacts) (snaps : Snaps) (bound inserter : ℕ) (ender : Option ℕ) → IsRegistryOf xacts snaps → bound ≤ horizon xacts snaps → is_dead xacts bound inserter ender ≡ true → seen_by_any xacts snaps inserter ender ≡ false
 dead_unseen xacts snaps bound inserter ender registry le dead = no_snapshot_passes (λ s. sees xacts s inserter ender None) snaps (λ id held is. elim (dead_cases xacts bound inserter ender dead) [
@@ -134,17 +145,18 @@ dead_unseen xacts snaps bound inserter ender registry le dead = no_snapshot_pass
       subst (λ (o : Option ℕ). sees xacts held.snapshot inserter o None ≡ false) (sym ended.1) (ended_unseen xacts held.snapshot inserter ended.0 None (shown_below_xmin xacts held.snapshot ended.0 (registry.each id held is) below ended.2))
 ])
 
+-- a version need not be kept where its inserter does not run, and has not committed, or where a committed transaction has ended the version and no snapshot sees it
+pub neither : (runs committed whole seen : Bool) → runs ≡ false → (committed ≡ false) ⊎ ((whole ≡ false) × (seen ≡ false)) → (runs || (committed && (whole || seen))) ≡ false
+neither true committed whole seen over why = over
+neither false committed whole seen over (inl none) = ap (λ c. c && (whole || seen)) none
+neither false true whole seen over (inr unseen) = ap (λ w. w || seen) unseen.0 ∙ unseen.1
+neither false false whole seen over (inr unseen) = refl
+
 pub dead_unprotected : (xacts : Xacts) (snaps : Snaps) (bound inserter : ℕ) (ender : Option ℕ) → IsRegistryOf xacts snaps → bound ≤ horizon xacts snaps → is_dead xacts bound inserter ender ≡ true → is_running xacts inserter ≡ false → is_protected xacts snaps inserter ender ≡ false
 dead_unprotected xacts snaps bound inserter ender registry le dead over = elim (dead_cases xacts bound inserter ender dead) [
   | inl aborted ↦ neither (is_running xacts inserter) (is_committed xacts inserter) (not (option_map_or (is_committed xacts) ender false)) (seen_by_any xacts snaps inserter ender) over (inl (aborted_is_uncommitted xacts inserter aborted))
   | inr ended ↦ neither (is_running xacts inserter) (is_committed xacts inserter) (not (option_map_or (is_committed xacts) ender false)) (seen_by_any xacts snaps inserter ender) over (inr (ap not (ap (λ o. option_map_or (is_committed xacts) o false) ended.1 ∙ ended.2), dead_unseen xacts snaps bound inserter ender registry le dead))
 ]
-  where
-    neither : (runs committed whole seen : Bool) → runs ≡ false → (committed ≡ false) ⊎ ((whole ≡ false) × (seen ≡ false)) → (runs || (committed && (whole || seen))) ≡ false
-    neither true committed whole seen over why = over
-    neither false committed whole seen over (inl none) = ap (λ c. c && (whole || seen)) none
-    neither false true whole seen over (inr unseen) = ap (λ w. w || seen) unseen.0 ∙ unseen.1
-    neither false false whole seen over (inr unseen) = refl
 
 pub dead_is_unseen : DeadIsUnseen
 dead_is_unseen = record { unseen = dead_unseen; unprotected = dead_unprotected }

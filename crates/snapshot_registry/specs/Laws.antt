@@ -85,6 +85,11 @@ pub record DeadIsUnseen : Type 0 where
   pub unseen : (xacts : Xacts) (snaps : Snaps) (bound inserter : ℕ) (ender : Option ℕ) → IsRegistryOf xacts snaps → bound ≤ horizon xacts snaps → is_dead xacts bound inserter ender ≡ true → seen_by_any xacts snaps inserter ender ≡ false
   pub unprotected : (xacts : Xacts) (snaps : Snaps) (bound inserter : ℕ) (ender : Option ℕ) → IsRegistryOf xacts snaps → bound ≤ horizon xacts snaps → is_dead xacts bound inserter ender ≡ true → is_running xacts inserter ≡ false → is_protected xacts snaps inserter ender ≡ false
 
+-- where an xid has committed below the horizon, or below an earlier one, a version that was ended by that commit or by one before it is seen by no registered snapshot, and is not protected unless its inserter still runs. The order is that of commits: the version's own ender may be above the bound
+pub record EarlierEndsAreUnseen : Type 0 where
+  pub unseen : (xacts : Xacts) (snaps : Snaps) (bound xid number inserter ender : ℕ) → IsRegistryOf xacts snaps → bound ≤ horizon xacts snaps → xid < bound → commit_number xacts xid ≡ Some number → is_committed_by xacts number ender ≡ true → seen_by_any xacts snaps inserter (Some ender) ≡ false
+  pub unprotected : (xacts : Xacts) (snaps : Snaps) (bound xid number inserter ender : ℕ) → IsRegistryOf xacts snaps → bound ≤ horizon xacts snaps → xid < bound → commit_number xacts xid ≡ Some number → is_committed_by xacts number ender ≡ true → is_running xacts inserter ≡ false → is_protected xacts snaps inserter (Some ender) ≡ false
+
 -- a version whose inserter was given an xid, and that need not be kept
 pub record IsUnprotected (xacts : Xacts) (snaps : Snaps) (inserter : ℕ) (ender : Option ℕ) : Type 0 where
   pub given : IsAssigned xacts inserter

@@ -2,7 +2,7 @@
 //! over the models of [`xact_status::XactTable`] and [`crate::SnapRegistry`], with a field for each
 //! event.
 
-ghost use Rattle.snapshot_registry.specs.Laws.{DeadIsUnseen, HorizonNeverFalls, RegistryIsAMap, SnapshotsAreMoments, SnapshotsStay, UnprotectedStays, UnseenStaysUnseen};
+ghost use Rattle.snapshot_registry.specs.Laws.{DeadIsUnseen, EarlierEndsAreUnseen, HorizonNeverFalls, RegistryIsAMap, SnapshotsAreMoments, SnapshotsStay, UnprotectedStays, UnseenStaysUnseen};
 ghost use Rattle.snapshot_registry.specs.Runs.{HoldsInEveryRun};
 
 /// The registry is a map from ids: each call changes what is registered under one id and nothing else.
@@ -35,6 +35,12 @@ pub fn unseen_stays_unseen()
 /// A version that is dead under the horizon is seen by no registered snapshot.
 pub fn dead_is_unseen()
     ensures { DeadIsUnseen }
+{}
+
+/// Where a transaction below the horizon has committed, each version that was ended by that commit or
+/// by an earlier one is seen by no registered snapshot, whichever xid ended it.
+pub fn earlier_ends_are_unseen()
+    ensures { EarlierEndsAreUnseen }
 {}
 
 /// A version that need not be kept is never again one that must be.

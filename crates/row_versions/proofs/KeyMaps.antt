@@ -12,7 +12,9 @@ use Rattle.slot_page.proofs.Pages.{put_here, put_was_free, slot_of-put, slot_of-
 use Rattle.xact_status.specs.Xacts.{Xacts}
 use Rattle.row_versions.specs.declared.version.Version.{Version}
 use Rattle.row_versions.specs.declared.keys.KeyEntry.{KeyEntry}
-use Rattle.row_versions.specs.Versions.{ended, is_dead_version, pruned}
+use Rattle.row_versions.specs.Versions.{ended, version_stamp, is_dead_version}
+use Rattle.heap_prune.specs.Lines.{pruned}
+use Rattle.heap_prune.proofs.Events.{was_there}
 use Rattle.row_versions.specs.Keys.{entry, entry_cmp, names_one_of, with_entry}
 use Rattle.row_versions.specs.Relations.{Pages, IsKeyMap, Names, pages_ended, pages_pruned}
 use Rattle.row_versions.proofs.Events.{slot_of-pruned}
@@ -63,21 +65,10 @@ keys_ended xid pages entries tid keys = keys_written pages entries tid (ended xi
     (λ version is. let before = key_ended xid (slot_of pages tid) version is in rw (← before.2) (keys.complete tid before.0 before.1))
 
 -- a page that is pruned
-names_pruned : (e : KeyEntry) (xacts : Xacts) (horizon : ℕ) (line : LinePointer Version) → Names e line → Names e (pruned xacts horizon line)
+names_pruned : (e : KeyEntry) (xacts : Xacts) (horizon : ℕ) (line : LinePointer Version) → Names e line → Names e (pruned version_stamp xacts horizon line)
 names_pruned e xacts horizon (Normal size version) named = cond_both (is_dead_version xacts horizon version) Dead (Normal size version) (Names e) (λ dead. tt) (λ live. named)
 names_pruned e xacts horizon Dead named = tt
 names_pruned e xacts horizon Unused named = named
-
-pruned_was : (xacts : Xacts) (horizon : ℕ) (line : LinePointer Version) (version : Version) → item_of (pruned xacts horizon line) ≡ Some version → item_of line ≡ Some version
-pruned_was xacts horizon (Normal size before) version is = elim (cases_Bool (is_dead_version xacts horizon before)) [
-  | inl dead ↦ absurd (gone (ap (λ b. item_of (cond b Dead (Normal size before))) (sym dead) ∙ is))
-  | inr live ↦ ap (λ b. item_of (cond b Dead (Normal size before))) (sym live) ∙ is
-]
-  where
-    gone : None ≡ Some version → ⊥
-    gone e = cc
-pruned_was xacts horizon Dead version is = is
-pruned_was xacts horizon Unused version is = is
 
 pub keys_pruned : (xacts : Xacts) (horizon : ℕ) (pages : Pages) (entries : List KeyEntry) (page : ℕ) → IsKeyMap pages entries → IsKeyMap (pages_pruned xacts horizon pages page) entries
 keys_pruned xacts horizon pages entries page keys = record {
@@ -86,10 +77,7 @@ keys_pruned xacts horizon pages entries page keys = record {
     | inl h ↦ rw h.1 (keys.named e held)
     | inr h ↦ rw h.1 (names_pruned e xacts horizon (slot_of pages e.tid) (keys.named e held))
   ];
-  complete = λ t version is. elim (slot_of-pruned xacts horizon pages page t) [
-    | inl h ↦ keys.complete t version (sym (ap item_of h.1) ∙ is)
-    | inr h ↦ keys.complete t version (pruned_was xacts horizon (slot_of pages t) version (sym (ap item_of h.1) ∙ is))
-  ];
+  complete = λ t version is. keys.complete t version (was_there version_stamp xacts horizon pages page t version is);
 }
 
 -- entries that are taken away name dead slots

@@ -1,11 +1,22 @@
 -- Versions of rows and the slots that hold them (PostgreSQL, "Concurrency Control, Multiversion Concurrency Control").
-use Rattle.std.specs.Prelude.{ℕ, ℤ, Bool, false, if◌then◌else◌, Some, None, List, ⊤}
-use Rattle.std.specs.Option.{ForSome}
+use Rattle.std.specs.Prelude.{ℕ, ℤ, ◌≤◌, Bool, Some, None, List, length}
 use Rattle.slot_page.specs.declared.line.LinePointer.{LinePointer}
 use Rattle.slot_page.specs.declared.line.LinePointer.TheVariants.{Normal, Dead, Unused}
-use Rattle.xact_status.specs.Versions.{is_dead}
-use Rattle.xact_status.specs.Xacts.{Xacts, IsAssigned}
+use Rattle.tuple_layout.specs.Sizes.{largest_tuple}
+use Rattle.xact_status.specs.declared.Stamp.{Stamp}
+use Rattle.xact_status.specs.Versions.{IsStampAssigned}
+use Rattle.xact_status.specs.Xacts.{Xacts}
+use Rattle.heap_prune.specs.Lines as lines
+use Rattle.heap_prune.specs.Lines.{is_dead_item}
 use Rattle.row_versions.specs.declared.version.Version.{Version}
+
+-- the transactions that put and ended a version
+abbrev pub version_stamp : Version → Stamp
+version_stamp version = record { inserter = version.inserter; ender = version.ender }
+
+-- a version with its stamp
+abbrev pub stamped_version : ℤ → Stamp → List ℕ → Version
+stamped_version key stamp tuple = record { key = key; inserter = stamp.inserter; ender = stamp.ender; tuple = tuple }
 
 -- a version that was just put: nothing has ended it
 abbrev pub new_version : ℤ → ℕ → List ℕ → Version
@@ -19,25 +30,21 @@ ended xid Unused = Unused
 
 -- whether no reader can see a version, by how the transactions stand and a horizon
 abbrev pub is_dead_version : Xacts → ℕ → Version → Bool
-is_dead_version xacts horizon version = is_dead xacts horizon version.inserter version.ender
+is_dead_version xacts horizon version = is_dead_item version_stamp xacts horizon version
 
 -- whether a slot has a version that no reader can see
 abbrev pub is_newly_dead : Xacts → ℕ → LinePointer Version → Bool
-is_newly_dead xacts horizon (Normal size version) = is_dead_version xacts horizon version
-is_newly_dead xacts horizon Dead = false
-is_newly_dead xacts horizon Unused = false
-
--- a slot after a prune: dead where it has a version that no reader can see, else as before
-abbrev pub pruned : Xacts → ℕ → LinePointer Version → LinePointer Version
-pruned xacts horizon line = if is_newly_dead xacts horizon line then Dead else line
+is_newly_dead xacts horizon line = lines.is_newly_dead version_stamp xacts horizon line
 
 -- the transactions that a version names were given their xids
-pub record IsVersionAssigned (xacts : Xacts) (version : Version) : Type 0 where
-  pub inserter : IsAssigned xacts version.inserter
-  pub ender : ForSome version.ender (IsAssigned xacts)
+abbrev pub IsVersionAssigned : Xacts → Version → Type 0
+IsVersionAssigned xacts version = IsStampAssigned xacts (version_stamp version)
 
--- the same of a slot's version, if it has one
-abbrev pub IsLineAssigned : Xacts → LinePointer Version → Type 0
-IsLineAssigned xacts (Normal size version) = IsVersionAssigned xacts version
-IsLineAssigned xacts Dead = ⊤
-IsLineAssigned xacts Unused = ⊤
+-- how many bytes a tuple has: its header and at most what a page has room for
+pub record IsTupleSize (size : ℕ) : Type 0 where
+  pub least : 24 ≤ size
+  pub most : size ≤ largest_tuple
+
+-- a version whose tuple a page has room for
+abbrev pub IsSized : Version → Type 0
+IsSized version = IsTupleSize (length version.tuple)

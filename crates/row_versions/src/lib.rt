@@ -9,7 +9,6 @@
 #![tactic(auto)]
 
 mod keys;
-mod pages;
 mod reads;
 mod relation;
 #[cfg(test)]
@@ -17,10 +16,6 @@ mod tests;
 mod version;
 
 pub use keys::KeyEntry;
-use list_facts::ListOf;
 pub use relation::RowVersions;
-use slot_page::Tid;
+pub use slot_page::TidList;
 pub use version::Version;
-
-/// A list of tids.
-pub type TidList = ListOf<Tid>;

@@ -3,11 +3,13 @@
 ghost use Rattle.std.specs.Prelude.{◌≡◌, find, map, slice_get, IsTrue, option_copied};
 ghost use Rattle.slot_page.specs.Pages.{item_in, slot_of};
 ghost use Rattle.snapshot_registry.specs.Snapshots.{is_registered};
-ghost use Rattle.row_versions.specs.Versions.{IsLineAssigned};
-ghost use Rattle.row_versions.specs.Relations.{AreAssigned, is_seen_at, with_versions};
+ghost use Rattle.row_versions.specs.Versions.{version_stamp};
+ghost use Rattle.heap_prune.specs.Lines.{IsLineAssigned};
+ghost use Rattle.row_versions.specs.Relations.{AreAssigned, is_current_at, is_seen_at, with_versions};
 
 use crate::keys::KeyEntry;
 use crate::version::Version;
+use heap_prune::Stamped;
 use slot_page::{PageList, Tid};
 use snapshot_registry::{SnapId, SnapRegistry};
 use xact_status::XactTable;
@@ -38,7 +40,7 @@ fn sees(
     own: Option<u64>,
 ) -> bool
     requires registered { IsTrue (is_registered snaps.now snap) }
-    requires assigned { IsLineAssigned xacts.now (slot_of pages.now tid) }
+    requires assigned { IsLineAssigned version_stamp xacts.now (slot_of pages.now tid) }
     ensures { result ≡ is_seen_at xacts.now snaps.now snap own pages.now tid }
 {
     match pages.get(tid) {
@@ -62,6 +64,36 @@ pub(crate) fn first_seen(
 {
     for entry in entries {
         if sees(pages, entry.tid, snap, snaps, xacts, own) {
+            return Some(entry.tid);
+        }
+    }
+    None
+}
+
+/// Whether the version at a tid, if there is one, is there at this moment for a transaction with the xid
+/// `own`, or for one without an xid.
+fn is_current(pages: &PageList<Version>, tid: Tid, xacts: &XactTable, own: Option<u64>) -> bool
+    requires { IsLineAssigned version_stamp xacts.now (slot_of pages.now tid) }
+    ensures { result ≡ is_current_at xacts.now own pages.now tid }
+{
+    match pages.get(tid) {
+        Some(version) => xacts.is_current(version.stamp(), own),
+        None => false,
+    }
+}
+
+/// The first tid, of those that the entries name, at which the version is there at this moment.
+pub(crate) fn first_current(
+    pages: &PageList<Version>,
+    entries: &[KeyEntry],
+    xacts: &XactTable,
+    own: Option<u64>,
+) -> Option<Tid>
+    requires { AreAssigned xacts.now pages.now }
+    ensures { result ≡ find (is_current_at xacts.now own pages.now) (map (λ entry. entry.tid) entries.now) }
+{
+    for entry in entries {
+        if is_current(pages, entry.tid, xacts, own) {
             return Some(entry.tid);
         }
     }

@@ -3,27 +3,29 @@
 ghost use Rattle.std.specs.Prelude.{◌≡◌, ◌≢◌, ℕ, ◌≤◌, ◌<◌, ◌++◌, true, false, Contains, count_by, length, slice_get, IfNone, IfOk, IfSome, IsTrue, OnErr, OnOk, option_copied};
 ghost use Rattle.std.specs.List.Sorted.{IsSorted};
 ghost use Rattle.slot_page.specs.declared.line.Tid.{Tid};
-ghost use Rattle.slot_page.specs.Slots.{IsDead, IsNormal};
+ghost use Rattle.slot_page.specs.DeadSlots.{dead_tids};
+ghost use Rattle.slot_page.specs.NextItems.{IsEmptyFrom, IsNextItem};
 ghost use Rattle.slot_page.specs.Pages.{page_at, put_tid, slot_of};
+ghost use Rattle.slot_page.specs.Slots.{IsDead, IsNormal, most_slots};
 ghost use Rattle.slot_page.specs.Tids.{tid_cmp};
 ghost use Rattle.snapshot_registry.specs.Snapshots.{is_registered};
-ghost use Rattle.row_versions.specs.Versions.{is_newly_dead, new_version};
-ghost use Rattle.slot_page.specs.DeadSlots.{dead_tids};
+ghost use Rattle.tuple_layout.specs.Sizes.{largest_tuple};
+ghost use Rattle.row_versions.specs.Versions.{is_newly_dead, new_version, stamped_version};
 ghost use Rattle.row_versions.specs.Keys.{entry_cmp, names_one_of};
-ghost use Rattle.row_versions.specs.Relations.{AreAssigned, no_versions, is_seen, version_in, versions_of, with_ended, with_pruned, with_reaped, with_version, without_entries};
+ghost use Rattle.row_versions.specs.Relations.{AreAssigned, IsRelation, is_current_row, is_seen, no_versions, version_in, versions_of, with_ended, with_pruned, with_reaped, with_version, without_entries};
 ghost use Rattle.row_versions.specs.declared.keys.KeyEntry.{KeyEntry};
 
 use crate::TidList;
 use crate::keys::{KeyEntry, entries_of, entry_of, insert_entry, remove_entries};
-use crate::pages::{add_dead, prune};
-use crate::reads::{first_seen, nth_version};
+use crate::reads::{first_current, first_seen, nth_version};
 use crate::version::Version;
+use heap_prune::prune_page;
 use slot_page::{PageList, Tid};
 use snapshot_registry::{SnapId, SnapRegistry};
 use std::alloc::{AllocError, Global};
 use std::marker::Model;
 use tuple_layout::{Bytes, Schema};
-use xact_status::XactTable;
+use xact_status::{Stamp, XactTable};
 
 /// The rows of a table, as versions.
 ///
@@ -37,19 +39,20 @@ pub struct RowVersions {
 }
 
 impl Model for RowVersions {
-    ghost use Rattle.row_versions.specs.Relations.{IsKeyMap, Relation};
+    ghost use Rattle.row_versions.specs.Relations.{IsRelation, Relation};
 
     ghost Value = { Relation };
 
     ghost view = { λ rel. record { schema = rel.schema; pages = rel.pages; entries = rel.entries.items } };
 
-    ghost invariant = { λ rel. IsKeyMap rel.pages rel.entries.items };
+    ghost invariant = { λ rel. IsRelation (record { schema = rel.schema; pages = rel.pages; entries = rel.entries.items }) };
 }
 
 impl RowVersions {
     /// A relation of this schema with no version, which takes no memory yet.
     pub fn new(alloc: Global, schema: Schema) -> Self
-        ensures { result ≡ no_versions schema }
+        ensures empty { result ≡ no_versions schema }
+        ensures sound { IsRelation result }
     {
         RowVersions {
             schema,
@@ -60,30 +63,71 @@ impl RowVersions {
 
     /// The schema of the table.
     pub fn schema(&self) -> &Schema
-        ensures { result.now ≡ self.now.schema }
+        ensures schema { result.now ≡ self.now.schema }
+        ensures sound { IsRelation self.now }
     {
         &self.schema
     }
 
     /// The number of pages.
     pub fn pages(&self) -> u64
-        ensures { result ≡ length self.now.pages }
+        ensures count { result ≡ length self.now.pages }
+        ensures sound { IsRelation self.now }
     {
         self.pages.len()
+    }
+
+    /// The number of slots of a page, unused ones included: at most 291.
+    pub fn slots(&self, page: u64) -> u16
+        requires { page < length self.now.pages }
+        ensures count { result ≡ length (page_at self.now.pages page) }
+        ensures most { result ≤ most_slots }
+    {
+        self.pages.page(page).len()
     }
 
     /// Puts a version of the row at a key, a tuple of 24 to 8,160 bytes, on the lowest page where it
     /// fits, else on a new one, and answers its tid. Where there is no memory, the relation stays.
     pub fn put_version(&mut self, key: i64, inserter: u64, tuple: Bytes) -> Result<Tid, AllocError>
         requires least { 24 ≤ length tuple }
-        requires most { length tuple ≤ 8160 }
+        requires most { length tuple ≤ largest_tuple }
+
+        // What Ok answers, and what it puts.
         ensures tid { IfOk result (λ tid. tid ≡ put_tid (length tuple) self.old.pages) }
         ensures put { OnOk result (self.new ≡ with_version self.old (new_version key inserter tuple)) }
+
+        // Where there is no memory, all is as before.
         ensures unchanged { OnErr result (self.new ≡ self.old) }
+
+        // What a caller needs to go on.
+        ensures sound { IsRelation self.new }
+    {
+        let stamp = Stamp {
+            inserter,
+            ender: None,
+        };
+        self.put_copy(key, stamp, tuple)
+    }
+
+    /// Puts a copy of a version of the row at a key, with the transactions that put and ended the version
+    /// and a tuple of its own. All else is as for `put_version`.
+    pub fn put_copy(&mut self, key: i64, stamp: Stamp, tuple: Bytes) -> Result<Tid, AllocError>
+        requires least { 24 ≤ length tuple }
+        requires most { length tuple ≤ largest_tuple }
+
+        // What Ok answers, and what it puts.
+        ensures tid { IfOk result (λ tid. tid ≡ put_tid (length tuple) self.old.pages) }
+        ensures put { OnOk result (self.new ≡ with_version self.old (stamped_version key stamp tuple)) }
+
+        // Where there is no memory, all is as before.
+        ensures unchanged { OnErr result (self.new ≡ self.old) }
+
+        // What a caller needs to go on.
+        ensures sound { IsRelation self.new }
     {
         let size = tuple.len() as u16;
         self.entries.reserve(1)?;
-        let version = Version::new(&key, inserter, tuple);
+        let version = Version::new(&key, stamp, tuple);
         let tid = self.pages.put(size, version)?;
         insert_entry(&mut self.entries, entry_of(&key, tid));
         Ok(tid)
@@ -91,9 +135,19 @@ impl RowVersions {
 
     /// The version at a tid, if there is one.
     pub fn version_at(&self, tid: Tid) -> Option<&Version>
-        ensures { option_copied result ≡ version_in self.now tid }
+        ensures version { option_copied result ≡ version_in self.now tid }
+        ensures sound { IsRelation self.now }
     {
         self.pages.get(tid)
+    }
+
+    /// The tid of the first version from a place on, by page and then by slot, if there is one. It looks
+    /// at no slot before that place.
+    pub fn next_version(&self, from: Tid) -> Option<Tid>
+        ensures found { IfSome result (IsNextItem self.now.pages from) }
+        ensures none { IfNone result (IsEmptyFrom self.now.pages from) }
+    {
+        self.pages.next_item(from)
     }
 
     /// The tid of a version of the row at a key, counted from 0 in the order of tids, if there are as
@@ -118,16 +172,31 @@ impl RowVersions {
         requires registered { IsTrue (is_registered snaps.now snap) }
         requires assigned { AreAssigned xacts.now self.now.pages }
         ensures seen { IfSome result (λ tid. is_seen xacts.now snaps.now snap own self.now key tid ≡ true) }
-        ensures none { IfNone result ((tid : Tid) → is_seen xacts.now snaps.now snap own self.now key tid ≡ false) }
+        ensures none { IfNone result ((tid : Tid) →
+            is_seen xacts.now snaps.now snap own self.now key tid ≡ false) }
     {
         let entries = entries_of(&self.entries, &key);
         first_seen(&self.pages, entries, snap, snaps, xacts, own)
     }
 
+    /// The tid of the version of the row at a key that is there at this moment for a transaction with the
+    /// xid `own`, or for one without an xid, if one is: the first of them. No snapshot is asked; it is
+    /// what a statement of a read committed transaction sees, and what stands in the way of an insert. It
+    /// takes time logarithmic in the number of all versions and linear in that of the key.
+    pub fn current_row(&self, key: i64, xacts: &XactTable, own: Option<u64>) -> Option<Tid>
+        requires { AreAssigned xacts.now self.now.pages }
+        ensures there { IfSome result (λ tid. is_current_row xacts.now own self.now key tid ≡ true) }
+        ensures none { IfNone result ((tid : Tid) → is_current_row xacts.now own self.now key tid ≡ false) }
+    {
+        let entries = entries_of(&self.entries, &key);
+        first_current(&self.pages, entries, xacts, own)
+    }
+
     /// Marks the version at a tid as ended by a transaction, whatever ended it before.
     pub fn set_ender(&mut self, tid: Tid, xid: u64)
         requires { IsNormal (slot_of self.old.pages tid) }
-        ensures { self.new ≡ with_ended xid self.old tid }
+        ensures ended { self.new ≡ with_ended xid self.old tid }
+        ensures sound { IsRelation self.new }
     {
         match self.pages.get_mut(tid) {
             Some(version) => version.ender = Some(xid),
@@ -147,18 +216,21 @@ impl RowVersions {
     ) -> Result<u32, AllocError>
         requires there { page < length self.old.pages }
         requires assigned { AreAssigned xacts.now self.old.pages }
-        ensures count { IfOk result (λ count. count ≡ count_by (is_newly_dead xacts.now horizon) (page_at self.old.pages page)) }
+
+        // What Ok answers, and what is then pruned and gathered.
+        ensures count { IfOk result (λ count.
+            count ≡ count_by (is_newly_dead xacts.now horizon) (page_at self.old.pages page)) }
         ensures pruned { OnOk result (self.new ≡ with_pruned xacts.now horizon self.old page) }
         ensures gathered { OnOk result (dead.new ≡ dead.old ++ dead_tids page (page_at self.new.pages page)) }
+
+        // Where there is no memory, all is as before.
         ensures unchanged { OnErr result (self.new ≡ self.old) }
         ensures list { OnErr result (dead.new ≡ dead.old) }
+
+        // What a caller needs to go on.
+        ensures sound { IsRelation self.new }
     {
-        let before = dead.len();
-        add_dead(self.pages.page(page), page, xacts, horizon, dead)?;
-        if dead.len() == before {
-            return Ok(0);
-        }
-        Ok(prune(self.pages.page_mut(page), xacts, horizon))
+        prune_page(&mut self.pages, page, xacts, horizon, dead)
     }
 
     /// Takes the entries of the key map away that name one of these dead slots, and answers how many
@@ -169,6 +241,7 @@ impl RowVersions {
         requires dead { (tid : Tid) → Contains dead.now tid → IsDead (slot_of self.old.pages tid) }
         ensures removed { self.new ≡ without_entries self.old dead.now }
         ensures count { result ≡ count_by (names_one_of dead.now) self.old.entries }
+        ensures sound { IsRelation self.new }
     {
         remove_entries(&mut self.entries, dead)
     }
@@ -177,7 +250,8 @@ impl RowVersions {
     pub fn reap(&mut self, tid: Tid)
         requires dead { IsDead (slot_of self.old.pages tid) }
         requires unnamed { (entry : KeyEntry) → Contains self.old.entries entry → entry.tid ≢ tid }
-        ensures { self.new ≡ with_reaped self.old tid }
+        ensures freed { self.new ≡ with_reaped self.old tid }
+        ensures sound { IsRelation self.new }
     {
         self.pages.page_mut(tid.page).make_unused(tid.slot);
     }

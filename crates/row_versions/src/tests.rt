@@ -9,8 +9,8 @@ use snapshot_registry::{SnapId, SnapRegistry};
 use std::alloc::{AllocError, Global};
 use std::process::Abort;
 use std::test::Fail;
-use tuple_layout::{Bytes, Schema, Storage};
-use xact_status::XactTable;
+use tuple_layout::{Bytes, LARGEST_TUPLE, Schema, Storage};
+use xact_status::{Stamp, XactTable};
 
 /// A table with three transactions: 3 has aborted, 4 has committed, and 5 runs.
 fn three_xacts(rt: &impl Abort, alloc: Global) -> Result<XactTable, AllocError>
@@ -66,7 +66,7 @@ fn put(
     ensures { AreAssigned xacts.now rel.new.pages }
 {
     assert!(rt; 24 <= len);
-    assert!(rt; len <= 8160);
+    assert!(rt; len <= LARGEST_TUPLE);
     assert!(rt; 3 <= xid);
     assert!(rt; xid < xacts.next());
     let tuple = data(alloc, len)?;
@@ -229,5 +229,32 @@ fn a_reader_sees_what_was_committed_and_its_own(rt: HostRuntime) -> Result<(), F
     assert!(rt; seen(&rel, &xacts, &shot, 7, None) == Some(at(0, 1)));
     assert!(rt; seen(&rel, &xacts, &shot, 7, Some(5)) == Some(at(0, 2)));
     assert!(rt; seen(&rel, &xacts, &shot, 8, Some(5)).is_none());
+    // The same without a snapshot.
+    assert!(rt; rel.current_row(7, &xacts, None) == Some(at(0, 1)));
+    assert!(rt; rel.current_row(7, &xacts, Some(5)) == Some(at(0, 2)));
+    assert!(rt; rel.current_row(8, &xacts, Some(5)).is_none());
+    Ok(())
+}
+
+#[test]
+fn copies_are_walked_with_their_stamps(rt: HostRuntime) -> Result<(), Fail> {
+    let alloc = rt.alloc();
+    let mut rel = RowVersions::new(alloc, Schema::new(alloc, &[Storage::Plain])?);
+    let stamp = Stamp {
+        inserter: 4,
+        ender: Some(3),
+    };
+    for len in [LARGEST_TUPLE, 24, 24] {
+        let _tid = rel.put_copy(7, stamp, data(alloc, len)?)?;
+    }
+    assert!(rt; rel.pages() == 2);
+    assert!(rt; rel.slots(0) == 1 && rel.slots(1) == 2);
+    assert!(rt;
+        rel.version_at(at(1, 1)).is_some_and(|version| version.inserter == 4
+            && version.ender == Some(3))
+    );
+    assert!(rt;
+        rel.next_version(at(0, 1)) == Some(at(1, 0)) && rel.next_version(at(1, 2)).is_none()
+    );
     Ok(())
 }

@@ -1,10 +1,10 @@
 //! A version of a row.
 
 ghost use Rattle.std.specs.Prelude.{◌≡◌};
-ghost use Rattle.xact_status.specs.Xacts.{IsAssigned, is_aborted, is_committed};
 
+use heap_prune::Stamped;
 use tuple_layout::Bytes;
-use xact_status::{XactState, XactTable};
+use xact_status::Stamp;
 
 /// A version of the row at a key, as its slot holds it.
 #[derive(Debug, Drop)]
@@ -19,46 +19,30 @@ pub struct Version {
 }
 
 impl Version {
-    ghost use Rattle.row_versions.specs.Versions.{is_dead_version, new_version, IsVersionAssigned};
+    ghost use Rattle.row_versions.specs.Versions.{stamped_version};
 
-    /// A version that nothing has ended.
-    pub(crate) fn new(key: &i64, inserter: u64, tuple: Bytes) -> Self
-        ensures { result ≡ new_version key.now inserter tuple }
+    /// A version with its stamp.
+    pub(crate) fn new(key: &i64, stamp: Stamp, tuple: Bytes) -> Self
+        ensures { result ≡ stamped_version key.now stamp tuple }
     {
         Version {
             key: *key,
-            inserter,
-            ender: None,
+            inserter: stamp.inserter,
+            ender: stamp.ender,
             tuple,
         }
     }
+}
 
-    /// Whether no reader can see the version, now or later, where every snapshot's least running xid is
-    /// at least the horizon.
-    pub(crate) fn is_dead(&self, xacts: &XactTable, horizon: u64) -> bool
-        requires { IsVersionAssigned xacts.now self.now }
-        ensures { result ≡ is_dead_version xacts.now horizon self.now }
-    {
-        if has_aborted(xacts, self.inserter) {
-            return true;
-        }
-        match self.ender {
-            Some(ender) => ender < horizon && has_committed(xacts, ender),
-            None => false,
+impl Stamped for Version {
+    ghost use Rattle.row_versions.specs.Versions.{version_stamp};
+
+    ghost stamp_of = { version_stamp };
+
+    fn stamp(&self) -> Stamp {
+        Stamp {
+            inserter: self.inserter,
+            ender: self.ender,
         }
     }
-}
-
-fn has_aborted(xacts: &XactTable, xid: u64) -> bool
-    requires { IsAssigned xacts.now xid }
-    ensures { result ≡ is_aborted xacts.now xid }
-{
-    matches!(xacts.status(xid), XactState::Aborted)
-}
-
-fn has_committed(xacts: &XactTable, xid: u64) -> bool
-    requires { IsAssigned xacts.now xid }
-    ensures { result ≡ is_committed xacts.now xid }
-{
-    matches!(xacts.status(xid), XactState::Committed { .. })
 }

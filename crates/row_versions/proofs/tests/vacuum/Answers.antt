@@ -29,4 +29,4 @@ reap-requires-clause-unnamed g c =
 
 pub returns-in-Some : goal.returns-in-Some
 returns-in-Some g c =
-    rw (c.reap.ensures, c.unindex-removed.ensures.removed, c.in_ok-count.ensures.pruned) (assigned_reaped c.args.xacts.now _ c.in-Some.tid.now (assigned_pruned c.args.xacts.now c.args.horizon c.args.rel.now.pages 0 c.requires))
+    rw (c.reap.ensures.freed, c.unindex-removed.ensures.removed, c.in_ok-count.ensures.pruned) (assigned_reaped c.args.xacts.now _ c.in-Some.tid.now (assigned_pruned c.args.xacts.now c.args.horizon c.args.rel.now.pages 0 c.requires))

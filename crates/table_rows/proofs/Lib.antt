@@ -1,0 +1,11 @@
+pub mod Fronts
+pub mod Worlds
+pub mod Tests
+pub mod Changes
+pub mod Unique
+pub mod Steps
+pub mod Moments
+pub mod Views
+pub mod Sessions
+pub mod Pages
+pub mod Records

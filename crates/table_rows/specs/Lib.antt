@@ -1,0 +1,4 @@
+pub mod Worlds
+pub mod Steps
+pub mod Views
+pub mod Laws

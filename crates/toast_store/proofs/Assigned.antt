@@ -7,17 +7,23 @@ use Rattle.chunk_relation.specs.Relations.{Pages, Relation, AreAssigned, with_en
 use Rattle.chunk_relation.proofs.Events.{assigned_put, assigned_ended, new_assigned}
 use Rattle.chunk_index.specs.declared.entry.Entry.{Entry}
 use Rattle.slice_fetch.specs.Spans.{piece}
-use Rattle.toast_store.specs.declared.save.SaveStage.{SaveStage}
-use Rattle.toast_store.specs.declared.save.SaveStage.TheVariants.{Drawing, Putting, Indexing, Saved}
-use Rattle.toast_store.specs.Saves.{Saving, rel_after, tuple_size}
+use Rattle.toast_store.specs.declared.piece_job.PieceStage.{PieceStage}
+use Rattle.toast_store.specs.declared.piece_job.PieceStage.TheVariants.{Putting, Indexing, Over}
+use Rattle.toast_store.specs.PieceJobs as pieces
+use Rattle.toast_store.specs.PieceJobs.{Piecing, tuple_size}
+use Rattle.toast_store.specs.Saves.{Saving, Stage, Drawing, Laying, pieces_of, rel_after}
 use Rattle.toast_store.specs.Marks.{marked}
 
--- a save puts chunks of its own transaction
-pub assigned_saved : (xacts : Xacts) (rel : Relation) (save : Saving) (stage : SaveStage) → IsAssigned xacts save.xid → AreAssigned xacts rel.pages → AreAssigned xacts (Relation.pages (rel_after rel save stage))
+-- a job of pieces puts chunks of its own transaction
+pub assigned_laid : (xacts : Xacts) (rel : Relation) (job : Piecing) (at : PieceStage) → IsAssigned xacts job.xid → AreAssigned xacts rel.pages → AreAssigned xacts (Relation.pages (pieces.rel_after rel job at))
+assigned_laid xacts rel job (Putting seq) given assigned = assigned_put xacts (tuple_size job.value seq) _ rel.pages assigned (new_assigned xacts job.value_id seq job.xid (piece job.value seq) given)
+assigned_laid xacts rel job (Indexing seq tid) given assigned = assigned
+assigned_laid xacts rel job Over given assigned = assigned
+
+-- and so does a save
+pub assigned_saved : (xacts : Xacts) (rel : Relation) (save : Saving) (stage : Stage) → IsAssigned xacts save.xid → AreAssigned xacts rel.pages → AreAssigned xacts (Relation.pages (rel_after rel save stage))
 assigned_saved xacts rel save Drawing given assigned = assigned
-assigned_saved xacts rel save (Putting value_id seq) given assigned = assigned_put xacts (tuple_size save seq) _ rel.pages assigned (new_assigned xacts value_id seq save.xid (piece save.value seq) given)
-assigned_saved xacts rel save (Indexing value_id seq tid) given assigned = assigned
-assigned_saved xacts rel save Saved given assigned = assigned
+assigned_saved xacts rel save (Laying value_id at) given assigned = assigned_laid xacts rel (pieces_of save value_id at) at given assigned
 
 -- and a mark ends chunks by its own
 pub assigned_marked : (xacts : Xacts) (xid : ℕ) (pages : Pages) (o : Option Entry) → IsAssigned xacts xid → AreAssigned xacts pages → AreAssigned xacts (marked xid pages o)

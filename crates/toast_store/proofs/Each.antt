@@ -16,7 +16,7 @@ use Rattle.toast_store.specs.Values.{Whole, Piece, piece_count, piece_in}
 use Rattle.toast_store.specs.Marks.{Marking, IsEnded, IsMarked}
 use Rattle.toast_store.proofs.Chosen.{chosen_in}
 use Rattle.toast_store.proofs.Pieces.{made_below, map-map}
-use Rattle.toast_store.proofs.Saving.{seq_of}
+use Rattle.toast_store.proofs.Laying.{seq_of}
 
 -- what is made of an element is among what is made of all, and comes from one
 map_in : {X Y : Type 0} (f : X → Y) (xs : List X) (x : X) → Contains xs x → Contains (map f xs) (f x)

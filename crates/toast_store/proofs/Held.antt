@@ -90,18 +90,19 @@ sweep_keeps_batch old new leaf dead walk sweeps spared = batch_kept old.index.en
 pub batch_named : (store : Store) (walk : Walking) → IsStore store → IsBatchHeld store.index.entries walk → IsBatchNamed store walk
 batch_named store walk is held = record { each = λ e left. is.names.named e (held.stands e left) }
 
+-- the entry that the next step takes is still to be taken
+pub taken_left : (e : Entry) (s : WalkStage) → entry_at s ≡ Some e → Contains (batch_left s) e
+taken_left e Empty at = absurd (none-some e at)
+taken_left e (Asking after) at = absurd (none-some e at)
+taken_left e (Reading batch n) at = subst (λ (es : List Entry). Contains es e) (sym (drop_more batch.entries n e (slice_get_within batch.entries n e at))) (first_in _ (drop (n + 1) batch.entries) e (get_or_from_slice_get batch.entries n e e at))
+taken_left e Over at = absurd (none-some e at)
+
 -- and a mark ends chunks of its value alone
 pub marks_own : (store : Store) (mark : Marking) → IsStore store → IsBatchHeld store.index.entries mark.walk → EndsOwn store mark
 marks_own store mark is held = record {
   each = λ e chunk at there.
-      let left = by_stage e mark.walk.stage at in
+      let left = taken_left e mark.walk.stage at in
       let own = held.of_walk e left in
       let number : chunk.seq ≡ e.seq = numbered e (slot_of store.rel.pages e.tid) chunk (is.names.named e (held.stands e left)) there in
       (id_named store e chunk is (held.stands e left) there ∙ own.of_value, omega (arith, number, own.before_end));
 }
-  where
-    by_stage : (e : Entry) (s : WalkStage) → entry_at s ≡ Some e → Contains (batch_left s) e
-    by_stage e Empty at = absurd (none-some e at)
-    by_stage e (Asking after) at = absurd (none-some e at)
-    by_stage e (Reading batch n) at = subst (λ (es : List Entry). Contains es e) (sym (drop_more batch.entries n e (slice_get_within batch.entries n e at))) (first_in _ (drop (n + 1) batch.entries) e (get_or_from_slice_get batch.entries n e e at))
-    by_stage e Over at = absurd (none-some e at)

@@ -20,13 +20,15 @@ use Rattle.chunk_index.specs.Indexes.{is_swept}
 use Rattle.chunk_index.proofs.Inserts.{entry_was, of_id-other, of_id_has, has_of_id}
 use Rattle.chunk_index.proofs.Sweeps.{left_was}
 use Rattle.external_pointer.specs.declared.external.Pointer.{Pointer}
-use Rattle.toast_store.specs.Stores.{Store, Names, IsStore, IsUnnamed, named_by}
+use Rattle.toast_store.specs.Stores.{Store, Names, IsStore, IsUnnamed, chunks_of, named_by}
 use Rattle.toast_store.specs.Values.{Whole, piece_in}
-use Rattle.toast_store.specs.Between.{LeavesValue, LeavesUnnamed, LeavesSave, Puts, Adds, Ends, Prunes, Sweeps, Reaps, Pins, IsSpared}
+use Rattle.toast_store.specs.Between.{LeavesValue, LeavesUnnamed, LeavesPieces, LeavesSave, Puts, Adds, Ends, Prunes, Sweeps, Reaps, Pins, IsSpared}
 use Rattle.value_ids.specs.Ids.{Pool}
-use Rattle.toast_store.specs.declared.save.SaveStage.{SaveStage}
-use Rattle.toast_store.specs.declared.save.SaveStage.TheVariants.{Drawing, Putting, Indexing, Saved}
-use Rattle.toast_store.specs.Saves.{Saving, StandsAt, held_by}
+use Rattle.value_ids.specs.declared.pool.InHand.{InHand}
+use Rattle.toast_store.specs.declared.piece_job.PieceStage.{PieceStage}
+use Rattle.toast_store.specs.declared.piece_job.PieceStage.TheVariants.{Putting, Indexing, Over}
+use Rattle.toast_store.specs.PieceJobs.{Piecing, PiecesStandAt}
+use Rattle.toast_store.specs.Saves.{Saving, Stage, Drawing, Laying, StandsAt, held_by, pieces_of}
 use Rattle.toast_store.proofs.Chosen.{chosen_agree, chosen_map, chosen_filters, chosen_in}
 
 -- a value that is left as it was stays whole
@@ -116,17 +118,17 @@ same_piece old new tid xid ends t = ap (λ pages. option_map piece_in (item_in p
   | inr h ↦ ap (option_map piece_in) h.1 ∙ ended_piece xid (slot_of old.rel.pages tid) ∙ ap (λ u. option_map piece_in (item_in old.rel.pages u)) (sym h.0)
 ]
 
--- so a whole value stays whole
+-- so the chunks under an id have the pieces that they had
+pub end_leaves_value_pieces : (old new : Store) (tid : Tid) (xid value_id : ℕ) → Ends old new tid xid → map piece_in (chunks_of new value_id) ≡ map piece_in (chunks_of old value_id)
+end_leaves_value_pieces old new tid xid value_id ends =
+    ap (λ es. map piece_in (named_by new.rel.pages (of_id value_id es))) ends.entries
+    ∙ chosen_map piece_in (λ (e : Entry). item_in new.rel.pages e.tid) (of_id value_id old.index.entries)
+    ∙ chosen_agree (λ (e : Entry). option_map piece_in (item_in new.rel.pages e.tid)) (λ (e : Entry). option_map piece_in (item_in old.rel.pages e.tid)) (of_id value_id old.index.entries) (λ e held. same_piece old new tid xid ends e.tid)
+    ∙ sym (chosen_map piece_in (λ (e : Entry). item_in old.rel.pages e.tid) (of_id value_id old.index.entries))
+
+-- and a whole value stays whole
 pub end_keeps_whole : (old new : Store) (tid : Tid) (xid : ℕ) (pointer : Pointer) (value : List ℕ) → Ends old new tid xid → Whole old pointer value → Whole new pointer value
-end_keeps_whole old new tid xid pointer value ends whole = record {
-  chunks =
-      ap (λ es. map piece_in (named_by new.rel.pages (of_id pointer.value_id es))) ends.entries
-      ∙ chosen_map piece_in (λ (e : Entry). item_in new.rel.pages e.tid) (of_id pointer.value_id old.index.entries)
-      ∙ chosen_agree (λ (e : Entry). option_map piece_in (item_in new.rel.pages e.tid)) (λ (e : Entry). option_map piece_in (item_in old.rel.pages e.tid)) (of_id pointer.value_id old.index.entries) (λ e held. same_piece old new tid xid ends e.tid)
-      ∙ sym (chosen_map piece_in (λ (e : Entry). item_in old.rel.pages e.tid) (of_id pointer.value_id old.index.entries))
-      ∙ whole.chunks;
-  size = whole.size;
-}
+end_keeps_whole old new tid xid pointer value ends whole = record { chunks = end_leaves_value_pieces old new tid xid pointer.value_id ends ∙ whole.chunks; size = whole.size }
 
 -- a prune leaves a value none of whose chunks is dead under its horizon
 pub prune_leaves : (old new : Store) (xacts : Xacts) (horizon page value_id : ℕ) → Prunes old new xacts horizon page → IsSpared old value_id xacts horizon → LeavesValue value_id old new
@@ -192,12 +194,13 @@ pin_leaves_unnamed old new tid pins = record {
   unnamed = λ free. subst (λ es. IsUnnamed es tid) (sym pins.entries) free;
 }
 
--- what a save relies on is kept where the value that it has put and the chunk that it has not indexed yet are left, and its id stays in hand
-pub save_kept : (old new : Store) (ids later : Pool) (save : Saving) → (stage : SaveStage) → LeavesSave old new stage → (Contains ids.in_hand (held_by save stage) → Contains later.in_hand (held_by save stage)) → StandsAt old ids save stage → StandsAt new later save stage
+-- what a job of pieces relies on is kept where the value that it has put and the chunk that it has not indexed yet are left
+pub pieces_kept : (old new : Store) (job : Piecing) (at : PieceStage) → LeavesPieces job.value_id old new at → PiecesStandAt old job at → PiecesStandAt new job at
+pieces_kept old new job (Putting seq) left stands = left ∙ stands
+pieces_kept old new job (Indexing seq tid) left stands = (left.0 ∙ stands.0, record { there = left.1.chunk ∙ stands.1.there; unnamed = left.1.unnamed stands.1.unnamed })
+pieces_kept old new job Over left stands = left ∙ stands
+
+-- and so is what a save relies on, where its id stays in hand too
+pub save_kept : (old new : Store) (ids later : Pool) (save : Saving) (stage : Stage) → LeavesSave old new stage → ((held : InHand) → Contains ids.in_hand held → Contains later.in_hand held) → StandsAt old ids save stage → StandsAt new later save stage
 save_kept old new ids later save Drawing left held stands = tt
-save_kept old new ids later save (Putting value_id seq) left held stands = record { in_hand = held stands.in_hand; chunks = left ∙ stands.chunks }
-save_kept old new ids later save (Indexing value_id seq tid) left held stands = (
-  record { in_hand = held stands.0.in_hand; chunks = left.0 ∙ stands.0.chunks },
-  record { chunk = left.1.chunk ∙ stands.1.chunk; unnamed = left.1.unnamed stands.1.unnamed },
-)
-save_kept old new ids later save Saved left held stands = tt
+save_kept old new ids later save (Laying value_id at) left held stands = record { in_hand = held (held_by save value_id) stands.in_hand; pieces = pieces_kept old new (pieces_of save value_id at) at left stands.pieces }

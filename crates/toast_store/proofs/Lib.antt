@@ -3,6 +3,7 @@ pub mod Used
 pub mod Chosen
 pub mod Kept
 pub mod Pieces
+pub mod Laying
 pub mod Saving
 pub mod OwnLeaf
 pub mod Walked
@@ -15,3 +16,8 @@ pub mod Each
 pub mod Marked
 pub mod Held
 pub mod Assigned
+pub mod ValueIn
+pub mod Others
+pub mod Fetched
+pub mod Ended
+pub mod Begun

@@ -9,7 +9,7 @@ use Rattle.slot_page.specs.Slots.{item_of}
 use Rattle.slot_page.specs.Pages.{slot_of, with_put_on, written}
 use Rattle.slot_page.proofs.Pages.{slot_of-put, slot_of-written, put_was_free}
 use Rattle.chunk_relation.specs.declared.chunk.Chunk.{Chunk}
-use Rattle.chunk_relation.specs.Chunks.{most_bytes}
+use Rattle.slice_fetch.specs.Spans.{chunk_size}
 use Rattle.chunk_relation.specs.Relations.{Pages}
 use Rattle.chunk_index.specs.declared.entry.Entry.{Entry}
 use Rattle.chunk_index.specs.Entries.{with_entry}
@@ -30,13 +30,13 @@ names_put size chunk pages entries names = record {
   apart = names.apart;
 }
 
-pub sized_put : (size : ℕ) (chunk : Chunk) (pages : Pages) → 1 ≤ length chunk.bytes → length chunk.bytes ≤ most_bytes → ((t : Tid) → IsPieceSized (slot_of pages t)) → (t : Tid) → IsPieceSized (slot_of (with_put_on size chunk pages) t)
+pub sized_put : (size : ℕ) (chunk : Chunk) (pages : Pages) → 1 ≤ length chunk.bytes → length chunk.bytes ≤ chunk_size → ((t : Tid) → IsPieceSized (slot_of pages t)) → (t : Tid) → IsPieceSized (slot_of (with_put_on size chunk pages) t)
 sized_put size chunk pages least most sized t = elim (slot_of-put size chunk pages t) [
   | inl same ↦ rw same (sized t)
   | inr h ↦ rw h.1 (least, most)
 ]
 
-pub store_put : (store : Store) (size : ℕ) (chunk : Chunk) → IsStore store → 1 ≤ length chunk.bytes → length chunk.bytes ≤ most_bytes → IsStore (record store { rel = record store.rel { pages = with_put_on size chunk store.rel.pages } })
+pub store_put : (store : Store) (size : ℕ) (chunk : Chunk) → IsStore store → 1 ≤ length chunk.bytes → length chunk.bytes ≤ chunk_size → IsStore (record store { rel = record store.rel { pages = with_put_on size chunk store.rel.pages } })
 store_put store size chunk is least most = record {
   index = is.index;
   names = names_put size chunk store.rel.pages store.index.entries is.names;

@@ -1,207 +1,113 @@
 -- The steps of a save: what it relies on holds after each, and at its end the value is whole.
-use Rattle.std.proofs.Common.{ℕ, ◌≡◌, ◌<◌, ◌+◌, Bool, true, false, cond, ◌||◌, ◌==◌, nat_lt, Option, Some, None, is_some, List, [], ◌∷◌, ◌++◌, length, map, filter, Contains, refl, sym, ap, ◌∙◌, subst, arith}
-use Rattle.std.specs.List.{filter_map, cons_option, list_any, range_with_len}
-use Rattle.std.specs.List.Sorted.{IsStrictlySortedBy}
-use Rattle.std.specs.Ordering.{is_lt}
+use Rattle.std.proofs.Common.{ℕ, ◌≡◌, ◌≤◌, ◌+◌, Bool, true, false, cond, ◌||◌, Some, List, [], ◌∷◌, ◌++◌, length, Contains, refl, sym, ap, ◌∙◌, subst, arith}
 use Rattle.std.specs.Option.{unwrap_or}
-use Rattle.std.proofs.lemmas.Bool.{ltb-false}
-use Rattle.std.proofs.lemmas.Bool.Decides.{nat_tests}
-use Rattle.std.proofs.lemmas.Option.{same_Some, none-some}
-use Rattle.std.proofs.lemmas.List.FromFn.{map-range_with_len_more}
-use Rattle.std.proofs.lemmas.List.Elements.{filter_map-append, Contains-append_right}
-use Rattle.std.proofs.lemmas.List.Kept.{IsStrictlySortedBy-filter}
-use Rattle.list_facts.proofs.Members.{filter_holds, first_in}
-use Rattle.slot_page.specs.declared.line.Tid.{Tid}
-use Rattle.slot_page.specs.declared.line.LinePointer.{LinePointer}
-use Rattle.slot_page.specs.declared.line.LinePointer.TheVariants.{Normal, Dead, Unused}
-use Rattle.slot_page.specs.Slots.{item_of}
-use Rattle.slot_page.specs.Pages.{slot_of, item_in, put_tid}
-use Rattle.slot_page.proofs.Pages.{item_put, put_was_free}
-use Rattle.slice_fetch.specs.Spans.{piece}
-use Rattle.external_pointer.specs.declared.external.Pointer.{Pointer}
-use Rattle.chunk_relation.specs.declared.chunk.Chunk.{Chunk}
-use Rattle.chunk_relation.specs.Chunks.{new_chunk}
-use Rattle.chunk_relation.specs.Relations.{Pages, Relation}
-use Rattle.chunk_index.specs.declared.entry.Entry.{Entry}
-use Rattle.chunk_index.specs.Entries.{entry_cmp, of_id, with_entry}
-use Rattle.chunk_index.proofs.Inserts.{one_more, comes_last, of_id-same, of_id_has}
+use Rattle.std.proofs.lemmas.List.Elements.{Contains-append_right}
+use Rattle.list_facts.proofs.Members.{first_in}
+use Rattle.external_pointer.specs.Spelling.{IsInRange}
 use Rattle.value_ids.specs.declared.pool.InHand.{InHand}
 use Rattle.value_ids.specs.Ids.{Pool, first_free_id, id_after, is_held}
 use Rattle.value_ids.specs.Faults.{IsCause}
 use Rattle.value_ids.specs.declared.fault.DrawFault.{DrawFault}
 use Rattle.value_ids.specs.declared.fault.DrawFault.TheVariants.{NoValueId, Memory}
 use Rattle.value_ids.proofs.Drawn.{drawn_free}
-use Rattle.toast_store.specs.Stores.{Store, Names, IsStore, IsUnnamed, chunks_of, named_by, is_used}
-use Rattle.toast_store.specs.Values.{Whole, piece_count, piece_in}
-use Rattle.toast_store.specs.Between.{Puts}
-use Rattle.toast_store.specs.Saves.{Saving, HasIndexed, HasPut, StandsAt, SaveStands, IsDrawn, IsSaveCause, IsWholeSaved, answer_at, ids_after, stage_after, stage_passed, tuple_size}
-use Rattle.toast_store.specs.declared.save.SaveStage.{SaveStage}
-use Rattle.toast_store.specs.declared.save.SaveStage.TheVariants.{Drawing, Putting, Saved}
-use Rattle.toast_store.proofs.Chosen.{chosen_filter, chosen_in}
-use Rattle.toast_store.proofs.Kept.{put_leaves}
-use Rattle.toast_store.proofs.Pieces.{map-map, made_below}
+use Rattle.toast_store.specs.Stores.{Store, is_used}
+use Rattle.toast_store.specs.Values.{piece_count}
+use Rattle.toast_store.specs.declared.piece_job.PieceStage.TheVariants.{Over}
+use Rattle.toast_store.specs.PieceJobs as pieces
+use Rattle.toast_store.specs.PieceJobs.{Piecing, IsLaying, IsPieceJob, PiecesStand, PiecesStandAt, PiecesStep, is_laid, new_pieces, pointer_to, steps_at}
+use Rattle.toast_store.specs.declared.save.SaveStage.TheVariants as stages
+use Rattle.toast_store.specs.declared.save.SaveStep.TheVariants.{More, Done}
+use Rattle.toast_store.specs.Saves.{Saving, Drawing, Laying, IsSaveCause, IsSaveLeft, IsSaveProgress, Parts, SaveFails, SaveStands, SaveSteps, answer_at, logged_by, saving_of, toast_rel_of}
+use Rattle.toast_store.proofs.Laying.{laid_over, laying_left, stands_begun, still_laying, whole_laid}
 
-clash : true ≡ false → ⊥
-clash e = cc
+clash : {X : Type 0} → true ≡ false → X
+clash e = absurd (cc)
 
-none_of : {X : Type 0} (o : Option X) → is_some o ≡ false → o ≡ None
-none_of None h = refl
-none_of (Some x) h = absurd (clash h)
-
-some_of : {X : Type 0} (o : Option X) → is_some o ≡ true → (x : X) × (o ≡ Some x)
-some_of None h = absurd (clash (sym h))
-some_of (Some x) h = (x, refl)
-
--- entries of which none names a chunk give none
-none_named : (pages : Pages) (entries : List Entry) → list_any (λ (e : Entry). is_some (item_in pages e.tid)) entries ≡ false → named_by pages entries ≡ []
-none_named pages [] none = refl
-none_named pages (e ∷ es) none = by_item (item_in pages e.tid) none (λ later. none_named pages es later)
+-- a draw that is refused tells why, and leaves all as before
+pub draw_fails : (old new : Parts) (found before : Saving) (fault : DrawFault) → found ≡ before → found.stage ≡ Drawing → IsCause (is_used old.store) old.ids found.table fault → new ≡ old → SaveFails old before new found fault
+draw_fails old new found before fault same at cause parts = subst (λ s. SaveFails old s new found fault) same (record {
+  cause = by_fault fault cause;
+  save = refl;
+  store = ap (λ (p : Parts). p.store) parts;
+  ids = ap (λ (p : Parts). p.ids) parts;
+  log = ap (λ (p : Parts). p.log) parts;
+})
   where
-    by_item : (o : Option Chunk) → (is_some o || list_any (λ (f : Entry). is_some (item_in pages f.tid)) es) ≡ false → (list_any (λ (f : Entry). is_some (item_in pages f.tid)) es ≡ false → named_by pages es ≡ []) → cons_option o (named_by pages es) ≡ []
-    by_item None h rest = rest h
-    by_item (Some chunk) h rest = absurd (clash h)
+    by_fault : (f : DrawFault) → IsCause (is_used old.store) old.ids found.table f → IsSaveCause old.store old.ids found f
+    by_fault (NoValueId in_use) c = (at, c)
+    by_fault Memory c = tt
 
--- an id that is not used has no chunk
-pub unused_none : (store : Store) (value_id : ℕ) → is_used store value_id ≡ false → chunks_of store value_id ≡ []
-unused_none store value_id unused = none_named store.rel.pages (of_id value_id store.index.entries) unused
-
--- after the draw
-pub stands_drawn : (store : Store) (ids later : Pool) (save : Saving) (value_id : ℕ) → first_free_id (is_used store) ids save.table ≡ Some value_id → later.in_hand ≡ ids.in_hand ++ (record { table = save.table; session = save.session; id = value_id }) ∷ [] → HasIndexed store later save value_id 0
-stands_drawn store ids later save value_id drawn held = record {
-  in_hand = subst (λ (hs : List InHand). Contains hs mine) (sym held) (Contains-append_right ids.in_hand (mine ∷ []) mine (first_in mine [] mine refl));
-  chunks = unused_none store value_id (free (is_used store value_id) (is_held ids.in_hand save.table value_id) (drawn_free (is_used store) ids save.table value_id drawn));
+-- the draw
+pub draw_steps : (old new : Parts) (table session xid value_id : ℕ) (value : List ℕ) → 21 ≤ length value → first_free_id (is_used old.store) old.ids table ≡ Some value_id
+    → new.ids ≡ record old.ids { next = id_after old.ids value_id; in_hand = old.ids.in_hand ++ (record { table = table; session = session; id = value_id }) ∷ [] } → new.store ≡ old.store → new.log ≡ old.log
+    → SaveSteps old (saving_of table session (stages.Drawing xid value)) new (saving_of table session (stages.Laying (new_pieces xid value_id value))) More
+draw_steps old new table session xid value_id value least drawn taken store log = record {
+  answer = refl;
+  save = ap (λ id. saving_of table session (stages.Laying (new_pieces xid id value))) id_is;
+  drawn = drawn;
+  ids = taken ∙ ap (λ id. record old.ids { next = id_after old.ids id; in_hand = old.ids.in_hand ++ (record { table = table; session = session; id = id }) ∷ [] }) id_is;
+  rel = ap (λ (s : Store). s.rel) store;
+  index = ap (λ (s : Store). s.index) store;
+  log = log;
+  stands = record {
+    in_hand = subst (λ (p : Pool). Contains p.in_hand mine) (sym taken) (Contains-append_right old.ids.in_hand (mine ∷ []) mine (first_in mine [] mine refl));
+    pieces = subst (λ s. PiecesStand s (new_pieces xid value_id value)) (sym store) (stands_begun old.store xid value_id value (free (is_used old.store value_id) (is_held old.ids.in_hand table value_id) (drawn_free (is_used old.store) old.ids table value_id drawn)));
+  };
+  left = tt;
+  fewer = (omega (arith, least), omega arith);
 }
   where
     mine : InHand
-    mine = record { table = save.table; session = save.session; id = value_id }
+    mine = record { table = table; session = session; id = value_id }
+
+    id_is : value_id ≡ unwrap_or (first_free_id (is_used old.store) old.ids table) 0
+    id_is = sym (ap (λ o. unwrap_or o 0) drawn)
 
     free : (used held : Bool) → (used || held) ≡ false → used ≡ false
-    free true held h = absurd (clash h)
+    free true held h = clash h
     free false held h = refl
 
--- after a put
-pub stands_put : (old new : Store) (ids : Pool) (save : Saving) (value_id seq : ℕ) (tid : Tid) → IsStore old → Puts old new (tuple_size save seq) (new_chunk value_id seq save.xid (piece save.value seq)) → tid ≡ put_tid (tuple_size save seq) old.rel.pages
-    → HasIndexed old ids save value_id seq → HasIndexed new ids save value_id seq × HasPut new save value_id seq tid
-stands_put old new ids save value_id seq tid is puts at stands = (
-  record {
-    in_hand = stands.in_hand;
-    chunks = put_leaves old new (tuple_size save seq) chunk value_id is puts ∙ stands.chunks;
-  },
-  record {
-    chunk = ap (λ t. item_in new.rel.pages t) at ∙ ap (λ pages. item_in pages (put_tid (tuple_size save seq) old.rel.pages)) puts.pages ∙ item_put (tuple_size save seq) chunk old.rel.pages;
-    unnamed = record { by_none = λ e held here. subst (Names e) (ap (slot_of old.rel.pages) (here ∙ at) ∙ put_was_free (tuple_size save seq) old.rel.pages) (is.names.named e (subst (λ es. Contains es e) puts.entries held)) };
-  },
-)
-  where
-    chunk : Chunk
-    chunk = new_chunk value_id seq save.xid (piece save.value seq)
+-- the job of the pieces under a save
+abbrev saves : ℕ → ℕ → Piecing → Saving
+saves table session job = saving_of table session (stages.Laying job)
 
--- an entry that comes after each that names a chunk adds its chunk behind theirs
-named_last : (pages : Pages) (entries : List Entry) (e : Entry) (chunk : Chunk) → IsStrictlySortedBy entry_cmp entries → item_in pages e.tid ≡ Some chunk → ((f : Entry) (c : Chunk) → Contains entries f → item_in pages f.tid ≡ Some c → is_lt (entry_cmp e f) ≡ false)
-    → named_by pages (with_entry entries e) ≡ named_by pages entries ++ chunk ∷ []
-named_last pages entries e chunk sorted is above =
-    sym (chosen_filter item live (with_entry entries e) (λ f held dead. none_of (item f) dead))
-    ∙ ap (filter_map item) (one_more live entries e sorted (ap is_some is) ∙ comes_last (filter live entries) e (λ f held. let has = filter_holds live entries f held in let there = some_of (item f) has.1 in above f there.0 has.0 there.1))
-    ∙ filter_map-append item (filter live entries) (e ∷ [])
-    ∙ ap (λ cs. cs ++ filter_map item (e ∷ [])) (chosen_filter item live entries (λ f held dead. none_of (item f) dead))
-    ∙ ap (λ o. named_by pages entries ++ cons_option o []) is
-  where
-    item : Entry → Option Chunk
-    item f = item_in pages f.tid
-
-    live : Entry → Bool
-    live f = is_some (item_in pages f.tid)
-
--- an entry of a value with a greater number comes after
-comes_after : (e f : Entry) → e.value_id ≡ f.value_id → f.seq < e.seq → is_lt (entry_cmp e f) ≡ false
-comes_after e f same above = grind (arith, nat_tests)
-
--- the chunk in the slot of an entry has the entry's number
-pub seq_of : (e : Entry) (line : LinePointer Chunk) (chunk : Chunk) → Names e line → item_of line ≡ Some chunk → chunk.seq ≡ e.seq
-seq_of e (Normal size item) chunk names is = ap (λ (c : Chunk). c.seq) (sym (same_Some item chunk is)) ∙ names.1
-seq_of e Dead chunk names is = absurd (none-some chunk is)
-seq_of e Unused chunk names is = absurd (none-some chunk is)
-
--- after a piece's entry
-pub stands_indexed : (old new : Store) (ids : Pool) (save : Saving) (value_id seq : ℕ) (tid : Tid) → IsStore old → new.rel ≡ old.rel → new.index.entries ≡ with_entry old.index.entries (record { value_id = value_id; seq = seq; tid = tid })
-    → HasIndexed old ids save value_id seq → HasPut old save value_id seq tid → HasIndexed new ids save value_id (seq + 1)
-stands_indexed old new ids save value_id seq tid is rel entries stands put = record {
-  in_hand = stands.in_hand;
-  chunks =
-      ap (λ r. named_by (Relation.pages r) (of_id value_id new.index.entries)) rel
-      ∙ ap (λ es. named_by old.rel.pages (of_id value_id es)) entries
-      ∙ ap (named_by old.rel.pages) (of_id-same old.index.entries e is.index.entries_sorted)
-      ∙ named_last old.rel.pages (of_id value_id old.index.entries) e chunk (IsStrictlySortedBy-filter entry_cmp (λ (f : Entry). f.value_id == value_id) old.index.entries is.index.entries_sorted) put.chunk above
-      ∙ ap (λ cs. cs ++ chunk ∷ []) stands.chunks
-      ∙ sym (map-range_with_len_more (λ k. new_chunk value_id k save.xid (piece save.value k)) 0 seq seq (omega arith));
+-- what a step of the pieces leaves, by whether they are at their end
+left_by : (store : Store) (ids : Pool) (table session : ℕ) (job : Piecing) (over : Bool) → 21 ≤ length job.value → IsPieceJob job → PiecesStand store job → Contains ids.in_hand (record { table = table; session = session; id = job.value_id }) → is_laid job.stage ≡ over → (over ≡ true → IsInRange (pointer_to job (toast_rel_of table)))
+    → IsSaveLeft store ids (saves table session job) (cond over (Done (pointer_to job (toast_rel_of table))) More)
+left_by store ids table session job true least is stands held over in_range = record {
+  in_range = in_range refl;
+  of_table = record { least = least; most = is.most; toast_rel = refl };
+  whole = whole_laid store job (toast_rel_of table) at_end;
+  chunks = at_end;
+  in_hand = held;
 }
   where
-    e : Entry
-    e = record { value_id = value_id; seq = seq; tid = tid }
+    at_end : PiecesStandAt store job Over
+    at_end = subst (PiecesStandAt store job) (laid_over job.stage over) stands
+left_by store ids table session job false least is stands held over in_range = still_laying job.stage over
 
-    chunk : Chunk
-    chunk = new_chunk value_id seq save.xid (piece save.value seq)
+fewer_by : (before job : Piecing) (toast_rel : ℕ) (over : Bool) → pieces.steps_left before ≡ pieces.steps_left job + 1 → IsPieceJob job → is_laid job.stage ≡ over → IsSaveProgress (pieces.steps_left before) (pieces.steps_left job) (cond over (Done (pointer_to job toast_rel)) More)
+fewer_by before job toast_rel true falls is over = ap (steps_at (piece_count (length job.value))) (laid_over job.stage over)
+fewer_by before job toast_rel false falls is over = (laying_left job.value job.stage is.stage over, omega (arith, falls))
 
-    above : (f : Entry) (c : Chunk) → Contains (of_id value_id old.index.entries) f → item_in old.rel.pages f.tid ≡ Some c → is_lt (entry_cmp e f) ≡ false
-    above f c held there =
-        let has = of_id_has value_id old.index.entries f held in
-        let made = made_below (λ k. new_chunk value_id k save.xid (piece save.value k)) 0 seq c (subst (λ cs. Contains cs c) stands.chunks (chosen_in (λ (g : Entry). item_in old.rel.pages g.tid) (of_id value_id old.index.entries) f c held there)) in
-        let number : c.seq ≡ f.seq = seq_of f (slot_of old.rel.pages f.tid) c (is.names.named f has.0) there in
-        comes_after e f (sym has.1) (omega (arith, made.1, number, ap (λ (d : Chunk). d.seq) made.2))
-
--- an entry that names an unnamed slot is not there
-pub not_there : (entries : List Entry) (e : Entry) → IsUnnamed entries e.tid → Contains entries e → ⊥
-not_there entries e free held = free.by_none e held refl
-
--- once each piece is indexed the value is whole
-pub whole_saved : (store : Store) (ids : Pool) (save : Saving) (pointer : Pointer) → HasIndexed store ids save pointer.value_id (piece_count (length save.value)) → pointer.size ≡ length save.value → Whole store pointer save.value
-whole_saved store ids save pointer stands size = record {
-  chunks = ap (map piece_in) stands.chunks ∙ map-map piece_in (λ k. new_chunk pointer.value_id k save.xid (piece save.value k)) (range_with_len 0 (piece_count (length save.value)));
-  size = size;
+-- a step of the pieces
+pub lay_steps : (old new : Parts) (table session : ℕ) (before after : Piecing) (over : Bool) → 21 ≤ length before.value → IsPieceJob after → PiecesStep old.store before new.store after → new.ids ≡ old.ids → new.log ≡ logged_by old.log table before → SaveStands old.store old.ids (saves table session before)
+    → is_laid after.stage ≡ over → (over ≡ true → IsInRange (pointer_to after (toast_rel_of table))) → SaveSteps old (saves table session before) new (saves table session after) (cond over (Done (pointer_to after (toast_rel_of table))) More)
+lay_steps old new table session before after over least is step ids log stands laid in_range = record {
+  answer = sym (ap (λ b. cond b (Done (pointer_to after (toast_rel_of table))) More) laid) ∙ ap (λ (v : List ℕ). answer_at (saves table session (record before { value = v })) (Laying after.value_id after.stage)) value_is;
+  save = ap (saves table session) step.job;
+  drawn = tt;
+  ids = ids;
+  rel = step.rel;
+  index = step.index;
+  log = log;
+  stands = record { in_hand = held; pieces = step.stands };
+  left = left_by new.store new.ids table session after over (subst (λ (v : List ℕ). 21 ≤ length v) (sym value_is) least) is step.stands held laid in_range;
+  fewer = fewer_by before after (toast_rel_of table) over step.left is laid;
 }
-
--- what a save relies on, by the stage that it is found in
-pub stands_here : (store : Store) (ids : Pool) (save : Saving) (stage : SaveStage) → save.stage ≡ stage → SaveStands store ids save → StandsAt store ids save stage
-stands_here store ids save stage at stands = subst (λ s. StandsAt store ids save s) at stands
-
--- a draw that is refused tells why
-pub drawn_cause : (store : Store) (ids : Pool) (save : Saving) (fault : DrawFault) → save.stage ≡ Drawing → IsCause (is_used store) ids save.table fault → IsSaveCause store ids save fault
-drawn_cause store ids save (NoValueId in_use) at cause = (at, cause)
-drawn_cause store ids save Memory at cause = tt
-
--- it does not change with the stage alone
-pub indexed_at : (store : Store) (ids : Pool) (save : Saving) (value_id n : ℕ) (stage : SaveStage) → HasIndexed store ids save value_id n → HasIndexed store ids (record save { stage = stage }) value_id n
-indexed_at store ids save value_id n stage has = record { in_hand = has.in_hand; chunks = has.chunks }
-
-pub put_at : (store : Store) (save : Saving) (value_id seq : ℕ) (tid : Tid) (stage : SaveStage) → HasPut store save value_id seq tid → HasPut store (record save { stage = stage }) value_id seq tid
-put_at store save value_id seq tid stage has = record { chunk = has.chunk; unnamed = has.unnamed }
-
--- where a draw leads, and what is in hand then
-pub drawn_stage : (store : Store) (ids : Pool) (save : Saving) (value_id : ℕ) → save.stage ≡ Drawing → first_free_id (is_used store) ids save.table ≡ Some value_id → Putting value_id 0 ≡ stage_after store ids save save.stage
-drawn_stage store ids save value_id at drawn = sym (ap (stage_after store ids save) at ∙ ap (λ o. Putting (unwrap_or o 0) 0) drawn)
-
-pub drawn_is : (store : Store) (ids : Pool) (save : Saving) (value_id : ℕ) → save.stage ≡ Drawing → first_free_id (is_used store) ids save.table ≡ Some value_id → IsDrawn store ids save save.stage (Putting value_id 0)
-drawn_is store ids save value_id at drawn = subst (λ s. IsDrawn store ids save s (Putting value_id 0)) (sym at) drawn
-
-pub drawn_ids : (store : Store) (ids later : Pool) (save : Saving) (value_id : ℕ) → save.stage ≡ Drawing → first_free_id (is_used store) ids save.table ≡ Some value_id
-    → later ≡ record ids { next = id_after ids value_id; in_hand = ids.in_hand ++ (record { table = save.table; session = save.session; id = value_id }) ∷ [] } → later ≡ ids_after store ids save save.stage
-drawn_ids store ids later save value_id at drawn taken =
-    taken ∙ sym (ap (ids_after store ids save) at ∙ ap (λ o. record ids { next = id_after ids (unwrap_or o 0); in_hand = ids.in_hand ++ (record { table = save.table; session = save.session; id = unwrap_or o 0 }) ∷ [] }) drawn)
-
--- after a piece's entry a save goes on to the next piece, or has ended
-pub passed_stands : (store : Store) (ids : Pool) (save : Saving) (value_id seq : ℕ) → HasIndexed store ids save value_id (seq + 1) → SaveStands store ids (record save { stage = stage_passed save.value value_id seq })
-passed_stands store ids save value_id seq has = by_test (nat_lt (seq + 1) (piece_count (length save.value)))
   where
-    by_test : (b : Bool) → SaveStands store ids (record save { stage = cond b (Putting value_id (seq + 1)) Saved })
-    by_test true = indexed_at store ids save value_id (seq + 1) (Putting value_id (seq + 1)) has
-    by_test false = tt
+    value_is : after.value ≡ before.value
+    value_is = ap (λ (j : Piecing). j.value) step.job
 
--- at its end the value is whole
-pub passed_whole : (store : Store) (ids : Pool) (save : Saving) (value_id seq : ℕ) → seq < piece_count (length save.value) → HasIndexed store ids save value_id (seq + 1) → IsWholeSaved store save.value (answer_at save value_id (stage_passed save.value value_id seq))
-passed_whole store ids save value_id seq within has = by_test (nat_lt (seq + 1) (piece_count (length save.value))) refl
-  where
-    by_test : (b : Bool) → nat_lt (seq + 1) (piece_count (length save.value)) ≡ b → IsWholeSaved store save.value (answer_at save value_id (cond b (Putting value_id (seq + 1)) Saved))
-    by_test true is = tt
-    by_test false is =
-        let last : seq + 1 ≡ piece_count (length save.value) = omega (arith, within, ltb-false (seq + 1) (piece_count (length save.value)) is) in
-        whole_saved store ids save (record { size = length save.value; value_id = value_id; toast_rel = 8192 + save.table }) (subst (λ n. HasIndexed store ids save value_id n) last has) refl
+    held : Contains new.ids.in_hand (record { table = table; session = session; id = after.value_id })
+    held = subst (λ (p : Pool). Contains p.in_hand (record { table = table; session = session; id = after.value_id })) (sym ids) (subst (λ (id : ℕ). Contains old.ids.in_hand (record { table = table; session = session; id = id })) (sym (ap (λ (j : Piecing). j.value_id) step.job)) stands.in_hand)

@@ -180,6 +180,13 @@ steps_remain walk entries stage not_over = by_stage walk.stage stage not_over
     by_stage (Reading batch at) of_walk n = omega (arith, of_walk.1)
     by_stage Over of_walk n = absurd (false≢true (sym n))
 
+-- a walk that is over stands at its end
+pub over_is : (s : WalkStage) → is_over s ≡ true → s ≡ Over
+over_is Empty h = absurd (false≢true h)
+over_is (Asking after) h = absurd (false≢true h)
+over_is (Reading batch at) h = absurd (false≢true h)
+over_is Over h = refl
+
 -- a walk that has not ended may make its next step: it asks again only after it has dropped its pin
 pub can_step : (index : Index) (walk : Walking) → is_over (stage_after index walk walk.stage) ≡ false → CanStep (index_walked index walk) (walk_after index walk)
 can_step index walk not_over = by_stage walk.stage not_over

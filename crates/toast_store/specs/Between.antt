@@ -13,10 +13,11 @@ use Rattle.slot_page.specs.Tids.{is_listed}
 use Rattle.chunk_index.specs.Entries.{with_entry}
 use Rattle.chunk_index.specs.Leaves.{Leaf}
 use Rattle.chunk_index.specs.Indexes.{unswept}
-use Rattle.toast_store.specs.declared.save.SaveStage.{SaveStage}
-use Rattle.toast_store.specs.declared.save.SaveStage.TheVariants.{Drawing, Putting, Indexing, Saved}
+use Rattle.toast_store.specs.declared.piece_job.PieceStage.{PieceStage}
+use Rattle.toast_store.specs.declared.piece_job.PieceStage.TheVariants.{Putting, Indexing, Over}
 use Rattle.toast_store.specs.Stores.{Store, Names, IsUnnamed, NamesChunk, chunks_of, named_by}
 use Rattle.toast_store.specs.Walks.{Walking, ahead, batch_left}
+use Rattle.toast_store.specs.Saves.{Stage, Drawing, Laying}
 
 -- the value with an id is as it was: the same chunks under it
 abbrev pub LeavesValue : ℕ → Store → Store → Type 0
@@ -27,12 +28,16 @@ pub record LeavesUnnamed (tid : Tid) (old new : Store) : Type 0 where
   pub chunk : item_in new.rel.pages tid ≡ item_in old.rel.pages tid
   pub unnamed : IsUnnamed old.index.entries tid → IsUnnamed new.index.entries tid
 
+-- what a job of pieces relies on is as it was
+abbrev pub LeavesPieces : ℕ → Store → Store → PieceStage → Type 0
+LeavesPieces value_id old new (Putting seq) = LeavesValue value_id old new
+LeavesPieces value_id old new (Indexing seq tid) = LeavesValue value_id old new × LeavesUnnamed tid old new
+LeavesPieces value_id old new Over = LeavesValue value_id old new
+
 -- what a save relies on is as it was
-abbrev pub LeavesSave : Store → Store → SaveStage → Type 0
+abbrev pub LeavesSave : Store → Store → Stage → Type 0
 LeavesSave old new Drawing = ⊤
-LeavesSave old new (Putting value_id seq) = LeavesValue value_id old new
-LeavesSave old new (Indexing value_id seq tid) = LeavesValue value_id old new × LeavesUnnamed tid old new
-LeavesSave old new Saved = ⊤
+LeavesSave old new (Laying value_id at) = LeavesPieces value_id old new at
 
 -- a chunk is put, of whatever value
 pub record Puts (old new : Store) (size : ℕ) (chunk : Chunk) : Type 0 where

@@ -9,7 +9,7 @@ use Rattle.chunk_relation.specs.declared.chunk.Chunk.{Chunk}
 use Rattle.chunk_index.specs.Pinned.{without_pin}
 use Rattle.toast_store.specs.Stores.{Store, IsStore, named_by}
 use Rattle.toast_store.specs.Values.{Whole, piece_count, piece_size}
-use Rattle.toast_store.specs.Walks.{Walking, CanStep, new_walk, ahead, entry_at, is_over, walk_after}
+use Rattle.toast_store.specs.Walks.{Walking, CanStep, IsBatchHeld, new_walk, ahead, entry_at, index_walked, is_over, steps_left, walk_after}
 use Rattle.toast_store.specs.declared.fault.FetchFault.{FetchFault}
 use Rattle.toast_store.specs.declared.fault.FetchFault.TheVariants.{MissingChunk, UnexpectedChunk, ChunkSize, Memory}
 use Rattle.toast_store.specs.declared.fetch.FetchStep.{FetchStep}
@@ -134,3 +134,26 @@ store_after_fault store session (ChunkSize got wanted) = record store { index = 
 abbrev pub IsFetchProgress : ℕ → ℕ → FetchStep → Type 0
 IsFetchProgress before after More = (0 < after) × (after < before)
 IsFetchProgress before after (Done bytes) = after ≡ 0
+
+-- what a step does that finds no fault
+pub record FetchSteps (old : Store) (before : Fetching) (new : Store) (after : Fetching) (step : FetchStep) : Type 0 where
+  -- what the fetch comes to is kept, or answered; and what this step answers is told by the store and the fetch before it
+  pub answer : IsFetchAnswer (outcome old before) (outcome new after) step
+  pub told : answer_due old before ≡ Ok step
+  -- the fetch and the store are then exactly these: a batch pins its leaf, and its last entry drops the pin
+  pub fetch : IsFetchLeft (fetch_after old before) after step
+  pub walk : after.walk ≡ walk_after old.index before.walk
+  pub store : new ≡ record old { index = index_walked old.index before.walk }
+  -- what the next step relies on, what is left of the batch, and that fewer steps are left
+  pub ready : IsFetchReady new after step
+  pub batch : IsBatchHeld old.index.entries before.walk → IsBatchHeld new.index.entries after.walk
+  pub left : IsFetchProgress (steps_left old.index.entries before.walk) (steps_left new.index.entries after.walk) step
+
+-- what a step does that ends in a fault
+pub record FetchFails (old : Store) (before : Fetching) (new : Store) (after : Fetching) (fault : FetchFault) : Type 0 where
+  -- but for want of memory, the fault is what the fetch comes to, and what this step was to answer
+  pub cause : IsFetchCause (outcome old before) fault
+  pub due : IsFetchCause (answer_due old before) fault
+  -- the pin is dropped and the fetch over; after want of memory all is as before
+  pub fetch : IsFetchAfter fault before after
+  pub store : new ≡ store_after_fault old before.walk.session fault

@@ -1,7 +1,10 @@
 pub mod Stores
 pub mod Values
 pub mod Walks
+pub mod PieceJobs
 pub mod Saves
 pub mod Fetches
 pub mod Marks
 pub mod Between
+pub mod Others
+pub mod Begun

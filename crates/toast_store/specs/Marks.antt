@@ -7,7 +7,7 @@ use Rattle.chunk_relation.specs.Relations.{Pages, with_ended}
 use Rattle.chunk_index.specs.declared.entry.Entry.{Entry}
 use Rattle.toast_store.specs.Stores.{Store}
 use Rattle.toast_store.specs.Values.{piece_count}
-use Rattle.toast_store.specs.Walks.{Walking, IsOfWalk, CanStep, new_walk, ahead, entry_at, index_walked}
+use Rattle.toast_store.specs.Walks.{Walking, IsOfWalk, IsBatchHeld, CanStep, new_walk, ahead, entry_at, index_walked, steps_left, walk_after}
 use Rattle.toast_store.specs.declared.mark.MarkStep.{MarkStep}
 use Rattle.toast_store.specs.declared.mark.MarkStep.TheVariants.{More, Done}
 use Rattle.toast_store.specs.declared.walk.WalkStage.TheVariants.{Over}
@@ -61,3 +61,16 @@ IsMarkReady store mark Done = mark.walk.stage ≡ Over
 abbrev pub IsMarkProgress : ℕ → ℕ → MarkStep → Type 0
 IsMarkProgress before after More = (0 < after) × (after < before)
 IsMarkProgress before after Done = after ≡ 0
+
+-- what a step does that finds memory
+pub record MarkSteps (old : Store) (before : Marking) (new : Store) (after : Marking) (step : MarkStep) : Type 0 where
+  -- the mark and the store are then exactly these: the chunk of the entry that is taken is ended, if there is one
+  pub mark : after ≡ record before { walk = walk_after old.index before.walk }
+  pub store : new ≡ store_marked old before
+  -- that chunk is one of the value; each of them lies ahead or is ended, and once the mark is done each is ended
+  pub own : IsBatchHeld old.index.entries before.walk → EndsOwn old before
+  pub marked : IsMarking old before → IsMarkAnswer new after step
+  -- what the next step relies on, what is left of the batch, and that fewer steps are left
+  pub ready : IsMarkReady new after step
+  pub batch : IsBatchHeld old.index.entries before.walk → IsBatchHeld new.index.entries after.walk
+  pub left : IsMarkProgress (steps_left old.index.entries before.walk) (steps_left new.index.entries after.walk) step

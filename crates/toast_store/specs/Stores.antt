@@ -6,7 +6,7 @@ use Rattle.slot_page.specs.declared.line.LinePointer.{LinePointer}
 use Rattle.slot_page.specs.declared.line.LinePointer.TheVariants.{Normal, Dead, Unused}
 use Rattle.slot_page.specs.Pages.{slot_of, item_in}
 use Rattle.chunk_relation.specs.declared.chunk.Chunk.{Chunk}
-use Rattle.chunk_relation.specs.Chunks.{most_bytes}
+use Rattle.slice_fetch.specs.Spans.{chunk_size}
 use Rattle.chunk_relation.specs.Relations.{Pages, Relation}
 use Rattle.chunk_index.specs.declared.entry.Entry.{Entry}
 use Rattle.chunk_index.specs.Entries.{of_id}
@@ -30,7 +30,7 @@ pub record IndexNamesChunks (pages : Pages) (entries : List Entry) : Type 0 wher
 
 -- a chunk, if there is one, has 1 to 1,996 bytes (TOAST_MAX_CHUNK_SIZE)
 abbrev pub IsPieceSized : LinePointer Chunk → Type 0
-IsPieceSized (Normal size chunk) = (1 ≤ length chunk.bytes) × (length chunk.bytes ≤ most_bytes)
+IsPieceSized (Normal size chunk) = (1 ≤ length chunk.bytes) × (length chunk.bytes ≤ chunk_size)
 IsPieceSized Dead = ⊤
 IsPieceSized Unused = ⊤
 

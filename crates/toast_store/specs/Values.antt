@@ -1,6 +1,6 @@
 -- Values, their pieces, and when a pointer's value is in a store (PostgreSQL, "TOAST, Out-of-Line, On-Disk TOAST Storage").
 use Rattle.std.specs.Prelude.{ℕ, ◌≡◌, ◌+◌, ◌-◌, ◌*◌, ◌/◌, List, length, map, min}
-use Rattle.std.specs.List.{range_with_len}
+use Rattle.std.specs.List.{flat_map, range_with_len}
 use Rattle.external_pointer.specs.declared.external.Pointer.{Pointer}
 use Rattle.slice_fetch.specs.Spans.{chunk_size, piece}
 use Rattle.chunk_relation.specs.declared.chunk.Chunk.{Chunk}
@@ -31,3 +31,7 @@ pieces_of value first n = map (λ seq. record { seq = seq; bytes = piece value s
 pub record Whole (store : Store) (pointer : Pointer) (value : List ℕ) : Type 0 where
   pub chunks : map piece_in (chunks_of store pointer.value_id) ≡ pieces_of value 0 (piece_count (length value))
   pub size : pointer.size ≡ length value
+
+-- the bytes of a pointer's value: those of the chunks under its id, in the order of their entries
+abbrev pub value_in : Store → Pointer → List ℕ
+value_in store pointer = flat_map (λ (chunk : Chunk). chunk.bytes) (chunks_of store pointer.value_id)

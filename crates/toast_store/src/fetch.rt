@@ -5,14 +5,14 @@ ghost use Rattle.std.specs.List.{cons_option};
 ghost use Rattle.std.specs.Option.{option_and_then, option_map};
 ghost use Rattle.slot_page.specs.Pages.{item_in};
 ghost use Rattle.chunk_relation.specs.declared.chunk.Chunk.{Chunk};
-ghost use Rattle.chunk_relation.specs.Chunks.{chunk_shown, most_bytes};
+ghost use Rattle.chunk_relation.specs.Chunks.{chunk_shown};
 ghost use Rattle.chunk_index.specs.declared.entry.Entry.{Entry};
 ghost use Rattle.slice_fetch.specs.declared.Span.{Span};
 ghost use Rattle.slice_fetch.specs.Spans.{chunk_size};
 ghost use Rattle.toast_store.specs.Stores.{IsStore};
 ghost use Rattle.toast_store.specs.Values.{piece_size};
-ghost use Rattle.toast_store.specs.Walks.{IsBatchHeld, IsStage, IsUnderWay, MayAsk, index_walked, steps_left, walk_after};
-ghost use Rattle.toast_store.specs.Fetches.{FetchesWhole, IsFetchAfter, IsFetchAnswer, IsFetchCause, IsFetchLeft, IsFetchProgress, IsFetchReady, Fetching, answer_by, answer_due, compared, comparison, end_of, fetch_after, first_of, new_fetch, next_chunk, outcome, part_of, refusal, store_after_fault, with_chunk};
+ghost use Rattle.toast_store.specs.Walks.{CanStep, IsBatchHeld, IsStage, IsUnderWay, MayAsk, index_walked, steps_left};
+ghost use Rattle.toast_store.specs.Fetches.{FetchFails, FetchSteps, FetchesWhole, IsFetch, IsFetchAfter, IsFetchCause, Fetching, answer_by, answer_due, compared, comparison, end_of, fetch_after, first_of, new_fetch, next_chunk, outcome, part_of, refusal, store_after_fault, with_chunk};
 
 use crate::fault::FetchFault;
 use crate::store::ToastStore;
@@ -100,14 +100,14 @@ fn part_of<'a>(span: Span, seq: u32, piece: &'a [u8]) -> &'a [u8]
 fn chunk_at(store: &ToastStore, tid: Tid) -> Option<ChunkView<'_>>
     ensures chunk { option_map chunk_shown result ≡ item_in store.now.rel.pages tid }
     ensures least { IfSome result (λ chunk. 1 ≤ length chunk.bytes.now) }
-    ensures most { IfSome result (λ chunk. length chunk.bytes.now ≤ most_bytes) }
+    ensures most { IfSome result (λ chunk. length chunk.bytes.now ≤ chunk_size) }
 {
     store.rel().chunk_at(tid)
 }
 
 /// Refuses a chunk that is not the piece with the wanted number of a value of this size.
 fn check(size: u32, wanted: u32, chunk: &ChunkView<'_>) -> Result<(), FetchFault>
-    requires { length chunk.now.bytes.now ≤ most_bytes }
+    requires { length chunk.now.bytes.now ≤ chunk_size }
     ensures number { OnOk result (chunk.now.seq ≡ wanted) }
     ensures size { OnOk result (length chunk.now.bytes.now ≡ piece_size size wanted) }
     ensures taken { OnOk result (refusal size wanted (chunk_shown chunk.now) ≡ None) }
@@ -136,6 +136,7 @@ impl Fetch {
         requires ordered { span.start ≤ span.end }
         requires within { span.end ≤ p.size }
         ensures fetch { IfOk result (λ fetch. fetch ≡ new_fetch p span session) }
+        ensures own { IfOk result IsFetch }
         ensures whole { IfOk result (FetchesWhole p span) }
         ensures batch { IfOk result (λ fetch. (entries : List Entry) → IsBatchHeld entries fetch.walk) }
     {
@@ -186,6 +187,7 @@ impl Fetch {
         ensures refused { IfErr result (IsFetchCause (answer_due store.old self.old)) }
         ensures fetch_stays { OnErr result (self.new ≡ self.old) }
         ensures store_stays { OnErr result (store.new ≡ store.old) }
+        ensures sound { IsStore store.new }
     {
         match self.walk.entry() {
             Some(entry) => {
@@ -199,9 +201,11 @@ impl Fetch {
 
     /// Ends it before its time, unless there was only no memory.
     fn give_up(&mut self, store: &mut ToastStore, fault: FetchFault) -> FetchFault
+        requires { IsStore store.old }
         ensures fault { result ≡ fault }
         ensures fetch { IsFetchAfter fault self.old self.new }
         ensures store { store.new ≡ store_after_fault store.old self.old.walk.session fault }
+        ensures sound { IsStore store.new }
     {
         if fault != FetchFault::Memory {
             self.walk.stop(store);
@@ -220,20 +224,15 @@ impl Fetch {
     /// reads the chunk; `MissingChunk` where they end too early, in the step that ends the value. The pin is
     /// then dropped and the fetch over. After `Memory` all is as before.
     pub fn step(&mut self, store: &mut ToastStore) -> Result<FetchStep, FetchFault>
-        requires under_way { IsUnderWay self.old.walk.stage }
-        requires pin { MayAsk store.old.index self.old.walk.session self.old.walk.stage }
-        ensures answer { IfOk result (IsFetchAnswer (outcome store.old self.old) (outcome store.new self.new)) }
-        ensures cause { IfErr result (IsFetchCause (outcome store.old self.old)) }
-        ensures told { IfOk result (λ step. answer_due store.old self.old ≡ Ok step) }
-        ensures due { IfErr result (IsFetchCause (answer_due store.old self.old)) }
-        ensures fetch { IfOk result (IsFetchLeft (fetch_after store.old self.old) self.new) }
-        ensures walk { OnOk result (self.new.walk ≡ walk_after store.old.index self.old.walk) }
-        ensures store { OnOk result (store.new ≡ record store.old { index = index_walked store.old.index self.old.walk }) }
-        ensures ready { IfOk result (IsFetchReady store.new self.new) }
-        ensures batch { IsBatchHeld store.old.index.entries self.old.walk → OnOk result (IsBatchHeld store.new.index.entries self.new.walk) }
-        ensures left { IfOk result (IsFetchProgress (steps_left store.old.index.entries self.old.walk) (steps_left store.new.index.entries self.new.walk)) }
-        ensures fetch_after { IfErr result (λ fault. IsFetchAfter fault self.old self.new) }
-        ensures store_after { IfErr result (λ fault. store.new ≡ store_after_fault store.old self.old.walk.session fault) }
+        requires { CanStep store.old.index self.old.walk }
+
+        // What a step does, and how one ends in a fault.
+        ensures ok { IfOk result (FetchSteps store.old self.old store.new self.new) }
+        ensures err { IfErr result (FetchFails store.old self.old store.new self.new) }
+
+        // What is true of each fetch and of each store.
+        ensures own { OnOk result (IsFetch self.new) }
+        ensures sound { IsStore store.new }
     {
         store.facts();
         if let Err(fault) = self.take(store) {

@@ -9,6 +9,7 @@ mod fetch;
 #[cfg(test)]
 mod fetch_tests;
 mod mark;
+mod piece_job;
 #[cfg(test)]
 mod reuse_tests;
 mod save;
@@ -17,10 +18,11 @@ mod store;
 mod tests;
 mod walk;
 
-pub use chunk_relation::TidList;
 pub use fault::FetchFault;
 pub use fetch::{Fetch, FetchStep};
 pub use mark::{Mark, MarkStep};
-pub use save::{Save, SaveStage, SaveStep};
+pub use piece_job::{PieceJob, PieceStage};
+pub use save::{FIRST_TOAST_REL, Save, SaveStep};
+pub use slot_page::TidList;
 pub use store::ToastStore;
 pub use walk::{Walk, WalkStage};

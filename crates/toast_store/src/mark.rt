@@ -4,8 +4,8 @@ ghost use Rattle.std.specs.Prelude.{◌≡◌, ◌≤◌, ◌<◌, IfOk, OnErr, 
 ghost use Rattle.slot_page.specs.Pages.{item_in};
 ghost use Rattle.chunk_relation.specs.Relations.{with_ended};
 ghost use Rattle.toast_store.specs.Stores.{IsStore, Store};
-ghost use Rattle.toast_store.specs.Walks.{IsBatchHeld, IsStage, IsUnderWay, MayAsk, steps_left, walk_after};
-ghost use Rattle.toast_store.specs.Marks.{EndsOwn, IsMarkAnswer, IsMarkProgress, IsMarkReady, IsMarking, new_mark, store_marked};
+ghost use Rattle.toast_store.specs.Walks.{CanStep, IsBatchHeld, IsStage, IsUnderWay, MayAsk, steps_left, walk_after};
+ghost use Rattle.toast_store.specs.Marks.{IsMarking, MarkSteps, new_mark, store_marked};
 
 use crate::store::ToastStore;
 use crate::walk::Walk;
@@ -41,7 +41,8 @@ impl Model for Mark {
 
 /// Marks the chunk at a tid, if there is one, as ended by a transaction.
 pub(crate) fn end_chunk(store: &mut ToastStore, tid: Tid, xid: u64)
-    ensures { store.new ≡ record store.old { rel = record store.old.rel { pages = (if is_some (item_in store.old.rel.pages tid) then with_ended xid store.old.rel.pages tid else store.old.rel.pages) } } }
+    ensures ended { store.new ≡ record store.old { rel = record store.old.rel { pages = (if is_some (item_in store.old.rel.pages tid) then with_ended xid store.old.rel.pages tid else store.old.rel.pages) } } }
+    ensures sound { IsStore store.new }
 {
     if store.rel().chunk_at(tid).is_some() {
         store.set_ender(tid, xid);
@@ -75,6 +76,7 @@ impl Mark {
         ensures left { OnOk result (steps_left store.new.index.entries self.new.walk < steps_left store.old.index.entries self.old.walk) }
         ensures mark_stays { OnErr result (self.new ≡ self.old) }
         ensures store_stays { OnErr result (store.new ≡ store.old) }
+        ensures sound { IsStore store.new }
     {
         match self.walk.entry() {
             Some(entry) => {
@@ -92,22 +94,18 @@ impl Mark {
     /// Until it is over, the session holds no pin in the store but that of the batch. Where there is no
     /// memory, all is as before.
     pub fn step(&mut self, store: &mut ToastStore) -> Result<MarkStep, AllocError>
-        requires under_way { IsUnderWay self.old.walk.stage }
-        requires pin { MayAsk store.old.index self.old.walk.session self.old.walk.stage }
-        ensures mark { OnOk result (self.new ≡ record self.old { walk = walk_after store.old.index self.old.walk }) }
-        ensures store { OnOk result (store.new ≡ store_marked store.old self.old) }
-        ensures marked { IsMarking store.old self.old → IfOk result (IsMarkAnswer store.new self.new) }
-        ensures ready { IfOk result (IsMarkReady store.new self.new) }
-        ensures batch { IsBatchHeld store.old.index.entries self.old.walk → OnOk result (IsBatchHeld store.new.index.entries self.new.walk) }
-        ensures own { IsBatchHeld store.old.index.entries self.old.walk → OnOk result (EndsOwn store.old self.old) }
-        ensures left { IfOk result (IsMarkProgress (steps_left store.old.index.entries self.old.walk) (steps_left store.new.index.entries self.new.walk)) }
+        requires { CanStep store.old.index self.old.walk }
+
+        // What a step does that finds memory, and what stays where it finds none.
+        ensures ok { IfOk result (MarkSteps store.old self.old store.new self.new) }
         ensures mark_stays { OnErr result (self.new ≡ self.old) }
         ensures store_stays { OnErr result (store.new ≡ store.old) }
+
+        // What is true of each store.
         ensures sound { IsStore store.new }
     {
         store.facts();
         self.take(store)?;
-        store.facts();
         if self.walk.is_over() {
             return Ok(MarkStep::Done);
         }

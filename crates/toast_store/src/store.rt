@@ -6,18 +6,19 @@ ghost use Rattle.slot_page.specs.Tids.{tid_cmp};
 ghost use Rattle.slot_page.specs.Slots.{IsDead, IsNormal};
 ghost use Rattle.slot_page.specs.Pages.{page_at, put_tid, slot_of, with_put_on, written};
 ghost use Rattle.slot_page.specs.declared.line.LinePointer.{LinePointer};
-ghost use Rattle.chunk_relation.specs.Chunks.{chunk_size, is_newly_dead, most_bytes, new_chunk};
+ghost use Rattle.chunk_relation.specs.Chunks.{chunk_tuple_size, is_newly_dead, new_chunk};
+ghost use Rattle.slice_fetch.specs.Spans.{chunk_size};
 ghost use Rattle.slot_page.specs.DeadSlots.{dead_tids};
 ghost use Rattle.chunk_relation.specs.Relations.{AreAssigned, with_ended, with_pruned};
 ghost use Rattle.chunk_index.specs.Entries.{wanted_of, with_entry};
 ghost use Rattle.chunk_index.specs.Leaves.{leaf_at};
 ghost use Rattle.chunk_index.specs.Pinned.{pin_of, without_pin};
-ghost use Rattle.chunk_index.specs.Indexes.{AddsBounds, after_batch, after_sweep, batch_of, sweep_answer};
+ghost use Rattle.chunk_index.specs.Indexes.{after_batch, after_sweep, batch_of, bounds_with, sweep_answer};
 ghost use Rattle.toast_store.specs.Stores.{IsStore, IsUnnamed, NamesChunk};
 
 use chunk_index::{Batch, ChunkIndex, Entry, Swept};
-use chunk_relation::{ChunkRel, TidList};
-use slot_page::Tid;
+use chunk_relation::ChunkRel;
+use slot_page::{Tid, TidList};
 use std::alloc::{AllocError, Global};
 use std::marker::Model;
 use value_ids::IdTest;
@@ -88,9 +89,9 @@ impl ToastStore {
         bytes: &[u8],
     ) -> Result<Tid, AllocError>
         requires least { 1 ≤ length bytes.now }
-        requires most { length bytes.now ≤ most_bytes }
-        ensures tid { IfOk result (λ tid. tid ≡ put_tid (chunk_size (length bytes.now)) self.old.rel.pages) }
-        ensures put { OnOk result (self.new ≡ record self.old { rel = record self.old.rel { pages = with_put_on (chunk_size (length bytes.now)) (new_chunk value_id seq inserter bytes.now) self.old.rel.pages } }) }
+        requires most { length bytes.now ≤ chunk_size }
+        ensures tid { IfOk result (λ tid. tid ≡ put_tid (chunk_tuple_size (length bytes.now)) self.old.rel.pages) }
+        ensures put { OnOk result (self.new ≡ record self.old { rel = record self.old.rel { pages = with_put_on (chunk_tuple_size (length bytes.now)) (new_chunk value_id seq inserter bytes.now) self.old.rel.pages } }) }
         ensures unchanged { OnErr result (self.new ≡ self.old) }
         ensures sound { IsStore self.new }
     {
@@ -148,7 +149,7 @@ impl ToastStore {
         requires unnamed { IsUnnamed self.old.index.entries e.tid }
         ensures rel { self.new.rel ≡ self.old.rel }
         ensures entries { OnOk result (self.new.index.entries ≡ with_entry self.old.index.entries e) }
-        ensures bounds { OnOk result (AddsBounds self.old.index self.new.index) }
+        ensures bounds { OnOk result (self.new.index.bounds ≡ bounds_with self.old.index.bounds self.old.index.entries e) }
         ensures pins { self.new.index.pins ≡ self.old.index.pins }
         ensures unchanged { OnErr result (self.new ≡ self.old) }
         ensures sound { IsStore self.new }

@@ -1,6 +1,7 @@
 //! A walk through the entries of a value, one batch or one entry a step.
 
 ghost use Rattle.std.specs.Prelude.{◌≡◌, ◌≤◌, ◌<◌, Some, None, MatchOption, OnErr, OnOk};
+ghost use Rattle.toast_store.specs.Stores.{IsStore};
 ghost use Rattle.toast_store.specs.Walks.{IsAsking, IsReading, IsStage, IsUnderWay, MayAsk, entry_at, index_walked, is_over, new_walk, walk_after};
 ghost use Rattle.chunk_index.specs.Pinned.{without_pin};
 ghost use Rattle.toast_store.specs.declared.walk.WalkStage.TheVariants.{Over};
@@ -93,12 +94,14 @@ impl Walk {
     /// Makes a step that takes no entry: asks for a batch, and ends where there is none. Where there is no
     /// memory, all is as before.
     pub(crate) fn ask(&mut self, store: &mut ToastStore) -> Result<(), AllocError>
+        requires sound { IsStore store.old }
         requires asking { IsAsking self.old.stage }
         requires pin { MayAsk store.old.index self.old.session self.old.stage }
         ensures walk { OnOk result (self.new ≡ walk_after store.old.index self.old) }
         ensures store { OnOk result (store.new ≡ record store.old { index = index_walked store.old.index self.old }) }
         ensures walk_stays { OnErr result (self.new ≡ self.old) }
         ensures store_stays { OnErr result (store.new ≡ store.old) }
+        ensures sound { IsStore store.new }
     {
         let WalkStage::Asking { after } = self.stage else {
             self.stage = WalkStage::Over;
@@ -115,9 +118,11 @@ impl Walk {
 
     /// Makes a step that takes an entry: goes on to the next one, and after a batch's last one drops the pin.
     pub(crate) fn pass(&mut self, store: &mut ToastStore)
-        requires { IsReading self.old.stage }
+        requires sound { IsStore store.old }
+        requires reading { IsReading self.old.stage }
         ensures walk { self.new ≡ walk_after store.old.index self.old }
         ensures store { store.new ≡ record store.old { index = index_walked store.old.index self.old } }
+        ensures sound { IsStore store.new }
     {
         match &mut self.stage {
             WalkStage::Reading { batch, at } if batch.entries.len() > *at + 1 => *at += 1,
@@ -134,6 +139,7 @@ impl Walk {
     pub(crate) fn stop(&mut self, store: &mut ToastStore)
         ensures walk { self.new ≡ record self.old { stage = Over } }
         ensures store { store.new ≡ record store.old { index = record store.old.index { pins = without_pin store.old.index.pins self.old.session } } }
+        ensures sound { IsStore store.new }
     {
         self.stage = WalkStage::Over;
         store.unpin(self.session);

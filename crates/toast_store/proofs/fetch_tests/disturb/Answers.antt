@@ -50,15 +50,15 @@ sweep_leaf-requires g c = gathered_sorted (Tid.page c.in_ok-tid.tid) (page_at c.
 pub returns-in_err-prune_page-clause-assigned : goal.returns-in_err-prune_page-clause-assigned
 returns-in_err-prune_page-clause-assigned g c =
     subst (λ (s : Store). AreAssigned c.args.xacts.now s.rel.pages) (sym c.in_err-prune_page.ensures.unchanged)
-    (put_and_ended c.args.xacts.now c.args.store.now c.put.new.store c.end_chunk.new.store c.in_ok-tid.tid c.requires.next c.in_ok-tid.ensures.assigned c.requires.assigned c.end_chunk.ensures)
+    (put_and_ended c.args.xacts.now c.args.store.now c.put.new.store c.end_chunk.new.store c.in_ok-tid.tid c.requires.next c.in_ok-tid.ensures.assigned c.requires.assigned c.end_chunk.ensures.ended)
 
 pub returns-clause-pins : goal.returns-clause-pins
 returns-clause-pins g c =
     ap (λ (s : Store). s.index.pins) c.sweep_leaf.ensures.swept ∙ pins_swept _ _ _
-    ∙ ap (λ (s : Store). s.index.pins) c.in_ok-prune_page.ensures.pruned ∙ ap (λ (s : Store). s.index.pins) c.end_chunk.ensures ∙ c.in_ok-tid.ensures.pins
+    ∙ ap (λ (s : Store). s.index.pins) c.in_ok-prune_page.ensures.pruned ∙ ap (λ (s : Store). s.index.pins) c.end_chunk.ensures.ended ∙ c.in_ok-tid.ensures.pins
 
 pub returns-clause-assigned : goal.returns-clause-assigned
 returns-clause-assigned g c =
-    let before = put_and_ended c.args.xacts.now c.args.store.now c.put.new.store c.end_chunk.new.store c.in_ok-tid.tid c.requires.next c.in_ok-tid.ensures.assigned c.requires.assigned c.end_chunk.ensures in
+    let before = put_and_ended c.args.xacts.now c.args.store.now c.put.new.store c.end_chunk.new.store c.in_ok-tid.tid c.requires.next c.in_ok-tid.ensures.assigned c.requires.assigned c.end_chunk.ensures.ended in
     subst (λ (s : Store). AreAssigned c.args.xacts.now s.rel.pages) (sym c.sweep_leaf.ensures.swept)
     (subst (λ (s : Store). AreAssigned c.args.xacts.now s.rel.pages) (sym c.in_ok-prune_page.ensures.pruned) (assigned_pruned c.args.xacts.now 5 c.end_chunk.new.store.rel.pages (Tid.page c.in_ok-tid.tid) before))

@@ -7,6 +7,6 @@ use Rattle.toast_store.proofs.fetch_tests.is_undisturbed.Goals as goal
 
 pub loop-seq-preserved : goal.loop-seq-preserved
 loop-seq-preserved g c = record {
-  ready = can_still c.step.new.store.index c.disturb.new.store.index c.step.new.self.walk (ap (λ pins. pin_of pins (Walking.session c.step.new.self.walk)) c.disturb.ensures.pins) (subst (IsFetchReady c.step.new.store c.step.new.self) c.in-More.is c.in_ok-step.ensures.ready);
+  ready = can_still c.step.new.store.index c.disturb.new.store.index c.step.new.self.walk (ap (λ pins. pin_of pins (Walking.session c.step.new.self.walk)) c.disturb.ensures.pins) (subst (IsFetchReady c.step.new.store c.step.new.self) c.in-More.is c.in_ok-step.ensures.ok.ready);
   assigned = c.disturb.ensures.assigned;
 }

@@ -23,13 +23,13 @@ loop-init g c = record {
 
 pub loop-preserved : goal.loop-preserved
 loop-preserved g c = record {
-  ready = subst (IsMarkReady c.step.new.store c.step.new.self) c.in-More.is c.in_ok-step.ensures.ready;
-  xid = ap (λ (m : Marking). m.xid) c.in_ok-step.ensures.mark ∙ c.loop.invariant.xid;
-  assigned = λ xacts given assigned. step_assigned xacts c.loop.store c.step.new.store c.loop.mark c.args.xid c.in_ok-step.ensures.store c.loop.invariant.xid given (c.loop.invariant.assigned xacts given assigned);
+  ready = subst (IsMarkReady c.step.new.store c.step.new.self) c.in-More.is c.in_ok-step.ensures.ok.ready;
+  xid = ap (λ (m : Marking). m.xid) c.in_ok-step.ensures.ok.mark ∙ c.loop.invariant.xid;
+  assigned = λ xacts given assigned. step_assigned xacts c.loop.store c.step.new.store c.loop.mark c.args.xid c.in_ok-step.ensures.ok.store c.loop.invariant.xid given (c.loop.invariant.assigned xacts given assigned);
 }
 
 pub returns-in_err-step : goal.returns-in_err-step
 returns-in_err-step g c = λ xacts given assigned. subst (λ (s : Store). AreAssigned xacts s.rel.pages) (sym c.in_err-step.ensures.store_stays) (c.loop.invariant.assigned xacts given assigned)
 
 pub returns-in-Done : goal.returns-in-Done
-returns-in-Done g c = λ xacts given assigned. step_assigned xacts c.loop.store c.step.new.store c.loop.mark c.args.xid c.in_ok-step.ensures.store c.loop.invariant.xid given (c.loop.invariant.assigned xacts given assigned)
+returns-in-Done g c = λ xacts given assigned. step_assigned xacts c.loop.store c.step.new.store c.loop.mark c.args.xid c.in_ok-step.ensures.ok.store c.loop.invariant.xid given (c.loop.invariant.assigned xacts given assigned)

@@ -4,7 +4,7 @@ use Rattle.slot_page.specs.Pages.{slot_of, item_in, put_tid, with_put_on}
 use Rattle.slot_page.proofs.Pages.{item_put, put_was_free}
 use Rattle.chunk_relation.specs.declared.chunk.Chunk.{Chunk}
 use Rattle.toast_store.specs.Stores.{Store, Names, IsStore, IsUnnamed}
-use Rattle.toast_store.proofs.Saving.{not_there}
+use Rattle.toast_store.proofs.Laying.{not_there}
 use Rattle.toast_store.proofs.fetch_tests.put.Goals as goal
 
 -- no entry names the slot of a chunk that was just put

@@ -1,30 +1,40 @@
-use Rattle.std.proofs.Common.{◌≡◌, ◌<◌, true, false, sym, ap, ◌∙◌, subst}
-use Rattle.toast_store.specs.Stores.{Store}
-use Rattle.toast_store.specs.Walks.{is_over, steps_left}
-use Rattle.toast_store.specs.Fetches.{Fetching}
-use Rattle.toast_store.proofs.Walked.{stepped_ready, steps_remain}
-use Rattle.toast_store.proofs.Outcomes.{ended_store}
-use Rattle.toast_store.proofs.Held.{held_stepped}
+use Rattle.std.proofs.Common.{◌≡◌, ◌<◌, ◌≤◌, true, false, List, ℕ, sym, ap, ◌∙◌, subst}
+use Rattle.std.proofs.lemmas.Bool.{le-ltb, lt-ltb}
+use Rattle.toast_store.specs.Walks.{IsStage, is_over}
+use Rattle.toast_store.specs.Fetches.{Fetching, FetchSteps, store_after_fault}
+use Rattle.toast_store.specs.declared.fault.FetchFault.TheVariants.{MissingChunk}
+use Rattle.toast_store.specs.declared.fetch.FetchStep.TheVariants.{Done}
+use Rattle.toast_store.specs.contracts.fetch.Fetch.{the_view}
+use Rattle.toast_store.proofs.Fetched.{HasTaken, fetch_gives_up, fetch_goes_on, fetch_is_done, fetch_misses}
 use Rattle.toast_store.proofs.fetch.Fetch.step.Goals as goal
 
-pub returns-then-not-is_over-clause-ready : goal.returns-then-not-is_over-clause-ready
-returns-then-not-is_over-clause-ready c =
+pub returns-in-Err-clause-err : goal.returns-in-Err-clause-err
+returns-in-Err-clause-err c =
+    let took = c.in-Err.ensures in
+    fetch_gives_up c.args.store.now c.take.new.store c.give_up.new.store c.args.self.now c.take.new.self c.give_up.new.self c.in-Err.fault _ took.fetch_stays took.store_stays took.cause took.refused c.give_up.ensures.fault c.give_up.ensures.fetch c.give_up.ensures.store
+
+pub returns-then-not-is_over-clause-ok : goal.returns-then-not-is_over-clause-ok
+returns-then-not-is_over-clause-ok c =
+    let took = c.in_default.ensures in
     let going : is_over c.take.new.self.walk.stage ≡ false = ap (λ (f : Fetching). is_over f.walk.stage) (sym c.self.view_is) ∙ sym c.is_over.ensures.over ∙ c.if-not-is_over.true in
-    stepped_ready c.args.store.now.index _ c.args.self.now.walk _ (ap (λ (f : Fetching). f.walk) c.in_default.ensures.fetch) (ap (λ (s : Store). s.index) c.in_default.ensures.store) going
+    let stage = subst (λ (f : Fetching). IsStage f.walk.first f.walk.end f.walk.stage) c.self.view_is c.is_over.ensures.sound in
+    fetch_goes_on c.args.store.now c.take.new.store c.args.self.now c.take.new.self (record { stage = took.stage; fetch = took.fetch; store = took.store; same = took.same; left = took.left; taken = took.taken }) stage going
 
-pub returns-then-not-is_over-clause-left : goal.returns-then-not-is_over-clause-left
-returns-then-not-is_over-clause-left c =
-    let going : is_over c.self.inside.walk.stage ≡ false = sym c.is_over.ensures.over ∙ c.if-not-is_over.true in
-    (subst (λ (f : Fetching). 0 < steps_left c.take.new.store.index.entries f.walk) c.self.view_is (steps_remain c.self.inside.walk c.take.new.store.index.entries c.is_over.ensures.sound going), c.in_default.ensures.left)
+pub returns-then-self-end-clause-err : goal.returns-then-self-end-clause-err
+returns-then-self-end-clause-err c =
+    let took = c.in_default.ensures in
+    let has : HasTaken c.args.store.now c.args.self.now c.take.new.store c.take.new.self = record { stage = took.stage; fetch = took.fetch; store = took.store; same = took.same; left = took.left; taken = took.taken } in
+    let over : is_over c.self.inside.walk.stage ≡ true = sym c.is_over.ensures.over ∙ c.if-not-is_over.false in
+    let wanted : c.self.inside.next < c.self.inside.walk.end = subst (λ (n : ℕ). c.self.inside.next < n) c.end.ensures c.if-self-end.true in
+    fetch_misses c.args.store.now c.take.new.store c.give_up-then-self-end.new.store c.args.self.now (the_view c.self.inside) c.give_up-then-self-end.new.self _ c.facts.ensures.index (subst (HasTaken c.args.store.now c.args.self.now c.take.new.store) (sym c.self.view_is) has) over
+    (lt-ltb c.self.inside.next c.self.inside.walk.end wanted) c.give_up-then-self-end.ensures.fault c.give_up-then-self-end.ensures.fetch
+    (c.give_up-then-self-end.ensures.store ∙ ap (λ (f : Fetching). store_after_fault c.take.new.store f.walk.session (MissingChunk c.self.inside.next)) (sym c.self.view_is))
 
-pub returns-then-self-end-clause-store_after : goal.returns-then-self-end-clause-store_after
-returns-then-self-end-clause-store_after c =
-    let over : is_over c.take.new.self.walk.stage ≡ true = ap (λ (f : Fetching). is_over f.walk.stage) (sym c.self.view_is) ∙ sym c.is_over.ensures.over ∙ c.if-not-is_over.false in
-    let unpinned = ended_store c.args.store.now c.take.new.store c.args.self.now c.take.new.self c.facts.ensures.index c.in_default.ensures.fetch c.in_default.ensures.store over in
-    rw c.give_up-then-self-end.ensures.fault (c.give_up-then-self-end.ensures.store ∙ unpinned)
-
-pub returns-then-not-is_over-clause-batch : goal.returns-then-not-is_over-clause-batch
-returns-then-not-is_over-clause-batch c = λ held. held_stepped c.args.store.now.index c.take.new.store.index c.args.self.now.walk c.take.new.self.walk (ap (λ (f : Fetching). f.walk) c.in_default.ensures.fetch) (ap (λ (s : Store). s.index) c.in_default.ensures.store) c.in_default.ensures.stage held
-
-pub returns-clause-batch : goal.returns-clause-batch
-returns-clause-batch c = λ held. held_stepped c.args.store.now.index c.take.new.store.index c.args.self.now.walk _ (ap (λ (f : Fetching). f.walk) (c.self.view_is ∙ c.in_default.ensures.fetch)) (ap (λ (s : Store). s.index) c.in_default.ensures.store) c.in_default.ensures.stage held
+pub returns-clause-ok : goal.returns-clause-ok
+returns-clause-ok c =
+    let took = c.in_default.ensures in
+    let has : HasTaken c.args.store.now c.args.self.now c.take.new.store c.take.new.self = record { stage = took.stage; fetch = took.fetch; store = took.store; same = took.same; left = took.left; taken = took.taken } in
+    let over : is_over c.self.inside.walk.stage ≡ true = sym c.is_over.ensures.over ∙ c.if-not-is_over.false in
+    let all : c.self.inside.walk.end ≤ c.self.inside.next = subst (λ (n : ℕ). n ≤ c.self.inside.next) c.end.ensures c.if-self-end.false in
+    subst (λ (bytes : List ℕ). FetchSteps c.args.store.now c.args.self.now c.take.new.store (record (the_view c.self.inside) { got = c.replace.new.dest }) (Done bytes)) (sym c.replace.ensures.value)
+    (fetch_is_done c.args.store.now c.take.new.store c.args.self.now (the_view c.self.inside) c.replace.new.dest (subst (HasTaken c.args.store.now c.args.self.now c.take.new.store) (sym c.self.view_is) has) over (le-ltb c.self.inside.next c.self.inside.walk.end all))

@@ -1,24 +1,18 @@
-use Rattle.std.proofs.Common.{◌≡◌, false, sym, ap, ◌∙◌}
-use Rattle.toast_store.specs.Stores.{Store}
-use Rattle.toast_store.specs.Walks.{is_over}
+use Rattle.std.proofs.Common.{◌≡◌, true, false, sym, ap, ◌∙◌, subst}
+use Rattle.toast_store.specs.Walks.{IsStage, is_over}
 use Rattle.toast_store.specs.Marks.{Marking}
-use Rattle.toast_store.proofs.Walked.{stepped_ready}
-use Rattle.toast_store.proofs.Held.{held_stepped, marks_own}
+use Rattle.toast_store.proofs.Ended.{mark_goes_on, mark_is_done}
 use Rattle.toast_store.proofs.mark.Mark.step.Goals as goal
 
-pub returns-clause-ready : goal.returns-clause-ready
-returns-clause-ready c =
+pub returns-then-is_over-clause-ok : goal.returns-then-is_over-clause-ok
+returns-then-is_over-clause-ok c =
+    let took = c.in_ok-take.ensures in
+    let over : is_over c.take.new.self.walk.stage ≡ true = ap (λ (m : Marking). is_over m.walk.stage) (sym c.self.view_is) ∙ sym c.is_over.ensures.over ∙ c.if-is_over.true in
+    mark_is_done c.args.store.now c.take.new.store c.args.self.now c.take.new.self c.facts.ensures (record { stage = took.stage; mark = took.mark; store = took.store; marking = took.marking; left = took.left }) over
+
+pub returns-clause-ok : goal.returns-clause-ok
+returns-clause-ok c =
+    let took = c.in_ok-take.ensures in
     let going : is_over c.take.new.self.walk.stage ≡ false = ap (λ (m : Marking). is_over m.walk.stage) (sym c.self.view_is) ∙ sym c.is_over.ensures.over ∙ c.if-is_over.false in
-    stepped_ready c.args.store.now.index _ c.args.self.now.walk _ (ap (λ (m : Marking). m.walk) c.in_ok-take.ensures.mark) (ap (λ (s : Store). s.index) c.in_ok-take.ensures.store) going
-
-pub returns-then-is_over-clause-batch : goal.returns-then-is_over-clause-batch
-returns-then-is_over-clause-batch c = λ held. held_stepped c.args.store.now.index c.take.new.store.index c.args.self.now.walk c.take.new.self.walk (ap (λ (m : Marking). m.walk) c.in_ok-take.ensures.mark) (ap (λ (s : Store). s.index) c.in_ok-take.ensures.store) c.in_ok-take.ensures.stage held
-
-pub returns-then-is_over-clause-own : goal.returns-then-is_over-clause-own
-returns-then-is_over-clause-own c = λ held. marks_own c.args.store.now c.args.self.now c.facts.ensures held
-
-pub returns-clause-batch : goal.returns-clause-batch
-returns-clause-batch c = λ held. held_stepped c.args.store.now.index c.take.new.store.index c.args.self.now.walk c.take.new.self.walk (ap (λ (m : Marking). m.walk) c.in_ok-take.ensures.mark) (ap (λ (s : Store). s.index) c.in_ok-take.ensures.store) c.in_ok-take.ensures.stage held
-
-pub returns-clause-own : goal.returns-clause-own
-returns-clause-own c = λ held. marks_own c.args.store.now c.args.self.now c.facts.ensures held
+    let stage = subst (λ (m : Marking). IsStage m.walk.first m.walk.end m.walk.stage) c.self.view_is c.is_over.ensures.sound in
+    mark_goes_on c.args.store.now c.take.new.store c.args.self.now c.take.new.self c.facts.ensures (record { stage = took.stage; mark = took.mark; store = took.store; marking = took.marking; left = took.left }) stage going

@@ -13,7 +13,7 @@ or_or true b c = refl
 or_or false b c = refl
 
 -- a place that is one of two lists is one of the first or of the second
-named_append : (ps qs : List Place) (p : Place) → is_named (ps ++ qs) p ≡ is_named ps p || is_named qs p
+pub named_append : (ps qs : List Place) (p : Place) → is_named (ps ++ qs) p ≡ is_named ps p || is_named qs p
 named_append [] qs p = refl
 named_append (q ∷ ps) qs p = ap (λ b. same_place p q || b) (named_append ps qs p) ∙ or_or (same_place p q) (is_named ps p) (is_named qs p)
 

@@ -1,15 +1,11 @@
 -- One step of a loop over a list.
-use Rattle.std.proofs.Common.{◌≡◌, ℕ, ◌+◌, ◌<◌, ◌≤◌, List, [], ◌∷◌, ◌++◌, length, get_or, drop, refl, sym, ap, ◌∙◌, arith, drop-cons, add-one, append_assoc, zero, suc}
+use Rattle.std.proofs.Common.{◌≡◌, ℕ, ◌+◌, ◌<◌, ◌≤◌, List, [], ◌∷◌, length, get_or, drop, refl, sym, ap, ◌∙◌, arith, drop-cons, add-one, zero, suc}
 use Rattle.std.specs.Prelude.{map as mapped, slice_set}
 use Rattle.std.specs.List.{enumerate_from}
 use Rattle.std.specs.Option.{unwrap_or}
 use Rattle.tuple_layout.specs.Places.{Row}
 use Rattle.command_set.specs.declared.Set.{Set}
 use Rattle.command_set.specs.Plain.{value_set}
-use Rattle.tuple_layout.specs.declared.Place.{Place}
-use Rattle.tuple_layout.specs.Places.{Rows}
-use Rattle.command_set.specs.declared.state.Change.{Change}
-use Rattle.command_set.specs.Changes.{fold_changes, keys_of, made, places_of}
 
 -- what is left of a list from an element on
 pub drop_step : {T : Type 0} (xs : List T) (i : ℕ) (x : T) → i < length xs → x ≡ get_or xs i x → drop i xs ≡ x ∷ drop (i + 1) xs

@@ -2,7 +2,7 @@
 use Rattle.std.specs.Prelude.{ℕ, List, [], ◌∷◌, ◌++◌, Option, Some, None, map as mapped, is_some, if◌then◌else◌}
 use Rattle.std.specs.Option.{unwrap_or}
 use Rattle.std.specs.FinMap as map
-use Rattle.tuple_layout.specs.declared.Storage.{Storage}
+use Rattle.tuple_layout.specs.Schemas.{TableSchema}
 use Rattle.tuple_layout.specs.Places.{Rows}
 use Rattle.command_set.specs.Changes.{place, fold_changes, keys_of}
 use Rattle.command_set.specs.declared.state.Change.{Change}
@@ -116,7 +116,7 @@ settled m s command reply =
     if is_granted reply then effect m s (transaction_of (session_of m s)) command else refused m s reply
 
 -- the plain store's answer to session s: each command at one moment
-abbrev pub answer : List (List Storage) → Plain → ℕ → Command → Answered
+abbrev pub answer : List TableSchema → Plain → ℕ → Command → Answered
 answer schemas m s command =
     let in_use = once_used m s (session_of m s) (table_of command) in
     let reply = reply_of schemas in_use s command in

@@ -1,9 +1,10 @@
 -- Changes of rows, as a transaction makes them one after another.
-use Rattle.std.specs.Prelude.{ℕ, ℤ, Bool, List, [], ◌∷◌, ◌++◌}
+use Rattle.std.specs.Prelude.{ℕ, ℤ, Bool, List, [], ◌∷◌, ◌++◌, Option, Some, None, if◌then◌else◌}
 use Rattle.std.specs.List.{list_any}
+use Rattle.std.specs.Option.{option_or}
 use Rattle.std.specs.FinMap as map
 use Rattle.tuple_layout.specs.declared.Place.{Place}
-use Rattle.tuple_layout.specs.Places.{Rows, same_place}
+use Rattle.tuple_layout.specs.Places.{Row, Rows, same_place}
 use Rattle.command_set.specs.declared.state.Change.{Change}
 use Rattle.command_set.specs.declared.state.Change.TheVariants.{Insert, Update, Move, Remove}
 
@@ -38,3 +39,15 @@ keys_of (change ∷ changes) = places_of change ++ keys_of changes
 -- whether a place is one of these
 abbrev pub is_named : List Place → Place → Bool
 is_named places q = list_any (λ p. same_place q p) places
+
+-- what a change leaves at a place: nothing if it does not name the place, else a row or none
+abbrev pub said : Change → Place → Option (Option Row)
+said (Insert t k row) p = if same_place p (place t k) then Some (Some row) else None
+said (Update t k row) p = if same_place p (place t k) then Some (Some row) else None
+said (Move t from to row) p = if same_place p (place t to) then Some (Some row) else if same_place p (place t from) then Some None else None
+said (Remove t k) p = if same_place p (place t k) then Some None else None
+
+-- what changes leave at a place: what the last of them that names it leaves
+abbrev pub outcome : List Change → Place → Option (Option Row)
+outcome [] p = None
+outcome (change ∷ changes) p = option_or (outcome changes p) (said change p)

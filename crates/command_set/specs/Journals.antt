@@ -1,11 +1,12 @@
 -- Journals: the moments of a script's commands in the order in which they fell, and what the plain store answers at each.
-use Rattle.std.specs.Prelude.{ℕ, ◌+◌, ◌-◌, Bool, true, false, List, [], ◌∷◌, ◌++◌, Option, Some, None, length, map as mapped, nat_lt, slice_get, slice_set, replicate, ◌==◌, ◌&&◌, ◌||◌, not, is_some, if◌then◌else◌}
-use Rattle.std.specs.List.{filter, list_all, enumerate_from}
-use Rattle.std.specs.Option.{option_map_or, unwrap_or}
-use Rattle.command_set.specs.Plain.{first_state}
+use Rattle.std.specs.Prelude.{ℕ, ◌+◌, ◌-◌, Bool, true, false, List, [], ◌∷◌, ◌++◌, Option, Some, None, length, map as mapped, slice_get, slice_set, replicate, ◌==◌, ◌&&◌, ◌||◌, not, is_some, if◌then◌else◌}
+use Rattle.std.specs.List.{filter, list_all, list_any, enumerate_from}
+use Rattle.std.specs.Option.{option_map, option_map_or, option_to_list, unwrap_or}
+use Rattle.command_set.specs.Plain.{first_state, nth}
 use Rattle.command_set.specs.declared.state.Plain.{Plain}
 use Rattle.command_set.specs.Replies.{is_granted}
 use Rattle.command_set.specs.Answers.{answer, with_failure}
+use Rattle.command_set.specs.declared.state.Answered.{Answered}
 use Rattle.command_set.specs.declared.journal.Line.{Line}
 use Rattle.command_set.specs.declared.journal.Run.{Run}
 use Rattle.command_set.specs.declared.journal.Told.{Told}
@@ -20,15 +21,56 @@ use Rattle.command_set.specs.declared.Reply.TheVariants as replies
 
 -- a session's command, both counted from 1
 abbrev pub command_at : Script → ℕ → ℕ → Option Command
-command_at script s n = slice_get (unwrap_or (slice_get script.sessions (s - 1)) []) (n - 1)
+command_at script s n = nth (unwrap_or (nth script.sessions s) []) n
+
+-- whether a session runs upkeep
+abbrev pub runs_upkeep : Plain → ℕ → Bool
+runs_upkeep m s = list_any (λ running. running.session == s) m.upkeep
 
 -- the state without a session's upkeep
 abbrev pub without_upkeep : Plain → ℕ → Plain
 without_upkeep m s = record m { upkeep = filter (λ running. not (running.session == s)) m.upkeep }
 
--- the state after a command has ended early: its upkeep is over, or its open transaction has failed; no session has both
+-- the state after a command has ended early: the upkeep that the session runs is over, or its open transaction has failed
 abbrev pub cut_short : Plain → ℕ → Plain
-cut_short m s = with_failure (without_upkeep m s) s
+cut_short m s = if runs_upkeep m s then without_upkeep m s else with_failure m s
+
+-- what comes of a command at an entry of this kind: the answer at its moment, afterwards what ends it
+abbrev pub came_of : Script → Plain → ℕ → Command → Kind → Answered
+came_of script m s command kinds.Run = answer script.schemas m s command
+came_of script m s command kinds.End = record { reply = replies.Done; after = without_upkeep m s }
+came_of script m s command kinds.NoValueId = record { reply = replies.NoValueId; after = cut_short m s }
+came_of script m s command kinds.Memory = record { reply = replies.Memory; after = cut_short m s }
+
+-- one entry of a journal in the plain store: the state before it, its command, its reply and the state after it
+pub record Moment : Type 0 where
+  pub entry : JournalEntry
+  pub before : Plain
+  pub command : Command
+  pub reply : Reply
+  pub after : Plain
+
+-- the moment of an entry in a state, where its command is
+abbrev pub moment_at : Plain → JournalEntry → Command → Answered → Moment
+moment_at m e command came = record { entry = e; before = m; command = command; reply = came.reply; after = came.after }
+
+-- the moment of an entry in a state; an entry that names no command of the script has none
+abbrev pub moment_of : Script → Plain → JournalEntry → Option Moment
+moment_of script m e =
+    option_map (λ command. moment_at m e command (came_of script m e.session command e.kind)) (command_at script e.session e.number)
+
+-- the state after a moment, if there is one
+abbrev pub state_after : Plain → Option Moment → Plain
+state_after m x = option_map_or (λ x. x.after) x m
+
+-- the moments of a journal from a state on, each in the state after the one before it
+abbrev pub moments_on : Script → Plain → List JournalEntry → List Moment
+moments_on script m [] = []
+moments_on script m (e ∷ es) = let x = moment_of script m e in option_to_list x ++ moments_on script (state_after m x) es
+
+-- the moments of a journal; its lines, its legality and all else that it tells are told by these
+abbrev pub moments : Script → List JournalEntry → List Moment
+moments script journal = moments_on script (first_state (length script.sessions)) journal
 
 -- whether a command reads or writes rows
 abbrev pub is_data : Command → Bool
@@ -73,7 +115,7 @@ first_run script = record {
 
 -- what is told of a session
 abbrev pub told_of : Run → ℕ → Told
-told_of run s = unwrap_or (slice_get run.told (s - 1)) untold
+told_of run s = unwrap_or (nth run.told s) untold
 
 -- the run with a session's place after an entry, and the state and the lines after it
 abbrev pub told_more : Run → JournalEntry → Option Reply → Plain → List Line → Run
@@ -99,34 +141,45 @@ with_reply lines e reply = mapped (corrected e reply) lines
 abbrev pub reply_before : Run → JournalEntry → Option Reply
 reply_before run e = let told = told_of run e.session in if told.begun == e.number then told.reply else None
 
--- the lines after a command was ended early: a data command's line changes, any other command gets a line of its own
-abbrev pub lines_cut_short : Script → Run → JournalEntry → Reply → List Line
-lines_cut_short script run e reply =
-    if is_some (reply_before run e) && option_map_or is_data (command_at script e.session e.number) false
-    then with_reply run.lines e reply
-    else run.lines ++ line_of e reply ∷ []
+-- whether an entry tells of a command's moment
+abbrev pub is_run : Kind → Bool
+is_run kinds.Run = true
+is_run kind = false
 
--- after the moment of a command
-abbrev pub after_moment : Script → Run → JournalEntry → Command → Run
-after_moment script run e command =
-    let answered = answer script.schemas run.plain e.session command in
-    told_more run e (Some answered.reply) answered.after (run.lines ++ line_of e answered.reply ∷ [])
+-- whether an entry ends its command early
+abbrev pub is_cut : Kind → Bool
+is_cut kinds.Run = false
+is_cut kinds.End = false
+is_cut kinds.NoValueId = true
+is_cut kinds.Memory = true
 
--- after one entry of this kind
-abbrev pub after_kind : Script → Run → JournalEntry → Kind → Run
-after_kind script run e kinds.Run = option_map_or (after_moment script run e) (command_at script e.session e.number) run
-after_kind script run e kinds.End = told_more run e (reply_before run e) (without_upkeep run.plain e.session) (run.lines ++ line_of e replies.Done ∷ [])
-after_kind script run e kinds.NoValueId = told_more run e (reply_before run e) (cut_short run.plain e.session) (lines_cut_short script run e replies.NoValueId)
-after_kind script run e kinds.Memory = told_more run e (reply_before run e) (cut_short run.plain e.session) (lines_cut_short script run e replies.Memory)
+-- what is known of the reply of a command's moment after an entry
+abbrev pub reply_after : Run → Moment → Option Reply
+reply_after run x = if is_run x.entry.kind then Some x.reply else reply_before run x.entry
 
--- after one entry
+-- the lines after an entry: a data command that ends early after its moment has its line changed, any other entry has a line of its own
+abbrev pub lines_after : Run → Moment → List Line
+lines_after run x =
+    if is_cut x.entry.kind && (is_some (reply_before run x.entry) && is_data x.command)
+    then with_reply run.lines x.entry x.reply
+    else run.lines ++ line_of x.entry x.reply ∷ []
+
+-- what a journal with this moment more tells
+abbrev pub after_moment : Run → Moment → Run
+after_moment run x = told_more run x.entry (reply_after run x) x.after (lines_after run x)
+
+-- what a journal with this entry more tells; one that names no command tells nothing
 abbrev pub after_entry : Script → Run → JournalEntry → Run
-after_entry script run e = after_kind script run e e.kind
+after_entry script run e = option_map_or (after_moment run) (moment_of script run.plain e) run
 
--- after these entries, in order
+-- what is told after these moments, in order
+abbrev pub run_through : Run → List Moment → Run
+run_through run [] = run
+run_through run (x ∷ xs) = run_through (after_moment run x) xs
+
+-- what a journal's entries tell after what is told
 abbrev pub run_on : Script → Run → List JournalEntry → Run
-run_on script run [] = run
-run_on script run (e ∷ es) = run_on script (after_entry script run e) es
+run_on script run journal = run_through run (moments_on script run.plain journal)
 
 -- what a whole journal tells
 abbrev pub run_of : Script → List JournalEntry → Run
@@ -139,11 +192,6 @@ plain_run script journal = (run_of script journal).plain
 -- the printed replies, in the order in which they are printed
 abbrev pub lines : Script → List JournalEntry → List Line
 lines script journal = (run_of script journal).lines
-
--- whether an entry tells of a command's moment
-abbrev pub is_run : Kind → Bool
-is_run kinds.Run = true
-is_run kind = false
 
 -- whether a reply says that upkeep has begun
 abbrev pub is_started : Reply → Bool
@@ -167,15 +215,16 @@ may_come_first command kinds.Run = true
 may_come_first command kinds.Memory = not (takes_no_memory command)
 may_come_first command kind = false
 
--- whether an entry may follow what a journal tells: it is the first of the session's next command, when no upkeep of the session is under way, or a second one after the moment of the session's last command
+-- whether a moment may follow what is told of its session: it is the first of the session's next command, when no upkeep of the session is under way, or a second one after the moment of the session's last command
+abbrev pub may_come : Told → Moment → Bool
+may_come told x =
+    ((x.entry.number == told.begun + 1) && (not (is_under_way told) && may_come_first x.command x.entry.kind))
+    || ((x.entry.number == told.begun) && (option_map_or is_run told.last false
+    && option_map_or (λ reply. may_come_second x.command reply x.entry.kind) told.reply false))
+
+-- whether an entry names a command and may follow what a journal tells
 abbrev pub may_follow : Script → Run → JournalEntry → Bool
-may_follow script run e =
-    let told = told_of run e.session in
-    let command_may = λ (may : Command → Bool). option_map_or may (command_at script e.session e.number) false in
-    nat_lt 0 e.session && (
-    ((e.number == told.begun + 1) && not (is_under_way told) && command_may (λ command. may_come_first command e.kind))
-    || ((e.number == told.begun) && option_map_or is_run told.last false
-    && command_may (λ command. option_map_or (λ reply. may_come_second command reply e.kind) told.reply false)))
+may_follow script run e = option_map_or (may_come (told_of run e.session)) (moment_of script run.plain e) false
 
 -- whether entries may follow what a journal tells, one after another
 abbrev pub may_follow_on : Script → Run → List JournalEntry → Bool

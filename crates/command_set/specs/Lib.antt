@@ -4,3 +4,5 @@ pub mod Plain
 pub mod Replies
 pub mod Answers
 pub mod Journals
+pub mod Orders
+pub mod Laws

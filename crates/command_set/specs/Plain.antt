@@ -1,6 +1,6 @@
 -- The plain store: whole copies of the rows in place of snapshots, and each command at one moment.
 -- There is no chunk, pointer, page or transaction number in it.
-use Rattle.std.specs.Prelude.{ℕ, ◌-◌, List, [], ◌∷◌, Option, Some, None, map as mapped, slice_get, slice_set, replicate, ◌==◌, if◌then◌else◌}
+use Rattle.std.specs.Prelude.{ℕ, zero, suc, ◌-◌, List, [], ◌∷◌, Option, Some, None, map as mapped, slice_get, slice_set, replicate, ◌==◌, if◌then◌else◌}
 use Rattle.std.specs.List.{enumerate_from}
 use Rattle.std.specs.Option.{unwrap_or}
 use Rattle.std.specs.FinMap as map
@@ -17,9 +17,14 @@ use Rattle.command_set.specs.declared.Set.{Set}
 abbrev pub first_state : ℕ → Plain
 first_state sessions = record { latest = map.empty; sessions = replicate sessions Outside; upkeep = [] }
 
+-- what stands at a place of a list, counted from 1; nothing at 0
+abbrev pub nth : {A : Type 0} → List A → ℕ → Option A
+nth xs zero = None
+nth xs (suc i) = slice_get xs i
+
 -- what a session is; one that does not exist is outside
 abbrev pub session_of : Plain → ℕ → Session
-session_of m s = unwrap_or (slice_get m.sessions (s - 1)) Outside
+session_of m s = unwrap_or (nth m.sessions s) Outside
 
 -- the state with that session in place of what it was
 abbrev pub with_session : Plain → ℕ → Session → Plain
@@ -39,7 +44,7 @@ row_at rows p = unwrap_or (map.get rows p) []
 
 -- the value of a column, from 1
 abbrev pub value_at : Row → ℕ → Option (List ℕ)
-value_at row column = unwrap_or (slice_get row (column - 1)) None
+value_at row column = unwrap_or (nth row column) None
 
 -- the value that is set for a column among these, if one is; no column is set twice
 abbrev pub value_set : List Set → ℕ → Option (Option (List ℕ))

@@ -1,15 +1,15 @@
 -- What each command answers: the first of its replies whose test holds.
-use Rattle.std.specs.Prelude.{ℕ, ℤ, pos, negsuc, ◌-◌, Bool, true, false, List, [], ◌∷◌, ◌++◌, Option, Some, None, slice_get, is_some, is_none, ◌==◌, ◌&&◌, ◌||◌, not, nat_lt}
+use Rattle.std.specs.Prelude.{ℕ, ℤ, pos, negsuc, Bool, true, false, List, [], ◌∷◌, ◌++◌, Option, Some, None, is_some, is_none, ◌==◌, ◌&&◌, ◌||◌, not, nat_lt}
 use Rattle.std.specs.List.{list_any, enumerate_from, find}
-use Rattle.std.specs.Option.{option_map, unwrap_or}
+use Rattle.std.specs.Option.{option_map, option_map_or, unwrap_or}
 use Rattle.std.specs.FinMap as map
 use Rattle.tuple_layout.specs.declared.Place.{Place}
-use Rattle.tuple_layout.specs.declared.Storage.{Storage}
+use Rattle.tuple_layout.specs.Schemas.{TableSchema, no_columns}
 use Rattle.tuple_layout.specs.Places.{Row, Rows}
 use Rattle.tuple_layout.specs.Sizes.{all_out_size, largest_tuple}
 use Rattle.tuple_layout.specs.Slices.{slice}
 use Rattle.command_set.specs.Changes.{place, keys_of, is_named}
-use Rattle.command_set.specs.Plain.{session_of, view_of, now_of, row_at, value_at, row_with}
+use Rattle.command_set.specs.Plain.{nth, session_of, view_of, now_of, row_at, value_at, row_with}
 use Rattle.command_set.specs.declared.state.Plain.{Plain}
 use Rattle.command_set.specs.declared.state.Transaction.{Transaction}
 use Rattle.command_set.specs.declared.state.Session.{Session}
@@ -38,17 +38,23 @@ first_of (None ∷ rest) granted = first_of rest granted
 abbrev pub least_other : Plain → ℕ → (ℕ → Session → Bool) → Option ℕ
 least_other m s test = option_map (λ (n, session). n) (find (λ (n, session). not (n == s) && test n session) (enumerate_from 1 m.sessions))
 
+-- the transaction that a session has open, if it has one
+abbrev pub open_transaction : Session → Option Transaction
+open_transaction Outside = None
+open_transaction Failed = None
+open_transaction (Open t) = Some t
+
+-- the places that a session claims: those that its open transaction has changed
+abbrev pub claims_of : Session → List Place
+claims_of session = option_map_or (λ t. keys_of t.changes) (open_transaction session) []
+
 -- whether the open transaction of a session has changed a place
 abbrev pub has_changed : Session → Place → Bool
-has_changed Outside p = false
-has_changed Failed p = false
-has_changed (Open t) p = is_named (keys_of t.changes) p
+has_changed session p = is_named (claims_of session) p
 
 -- whether the open transaction of a session has used a table
 abbrev pub has_used : Session → ℕ → Bool
-has_used Outside table = false
-has_used Failed table = false
-has_used (Open t) table = list_any (λ used. used == table) t.used
+has_used session table = option_map_or (λ t. list_any (λ used. used == table) t.used) (open_transaction session) false
 
 -- whether one kind of upkeep of a table waits for the other to end: two of the same kind, and a rewrite and any
 abbrev pub conflicts : Upkeep → Upkeep → Bool
@@ -88,9 +94,7 @@ new_transaction level = record { level = level; base = None; changes = []; since
 
 -- the transaction that a session has open; of any other session one that has done nothing
 abbrev pub transaction_of : Session → Transaction
-transaction_of Outside = new_transaction levels.Rc
-transaction_of Failed = new_transaction levels.Rc
-transaction_of (Open t) = t
+transaction_of session = unwrap_or (open_transaction session) (new_transaction levels.Rc)
 
 -- whether a session is in no transaction
 abbrev pub is_outside : Session → Bool
@@ -147,8 +151,8 @@ abbrev pub taken : Plain → Transaction → Place → Option Reply
 taken m t p = answers_if (is_some (map.get (now_of m t) p) || is_some (map.get (view_of m t) p)) replies.Taken
 
 -- the tuple is too large with every column out of line that may be
-abbrev pub too_big : List Storage → Row → Option Reply
-too_big schema row = let n = all_out_size schema row in answers_if (nat_lt largest_tuple n) (replies.TooBig n)
+abbrev pub too_big : TableSchema → Row → Option Reply
+too_big schema row = let n = all_out_size schema.storages row in answers_if (nat_lt largest_tuple n) (replies.TooBig n)
 
 -- the offset is negative
 abbrev pub bad_offset : ℤ → Option Reply
@@ -171,12 +175,12 @@ refused_before_use m s table = outside m s ∷ failed m s ∷ locked (rewriter_o
 abbrev pub refused_upkeep : Plain → ℕ → ℕ → Upkeep → List (Option Reply)
 refused_upkeep m s table kind = inside m s ∷ locked (holder_of m s table kind) ∷ []
 
--- the schema of a table, from 1
-abbrev pub schema_of : List (List Storage) → ℕ → List Storage
-schema_of schemas table = unwrap_or (slice_get schemas (table - 1)) []
+-- the schema of a table, from 1; no columns where there is no such table
+abbrev pub schema_of : List TableSchema → ℕ → TableSchema
+schema_of schemas table = unwrap_or (nth schemas table) no_columns
 
 -- the refusals of a command in their order, once its table is used and its copy is taken, in a state m where t is the session's transaction
-abbrev pub refusals : List (List Storage) → Plain → ℕ → Transaction → Command → List (Option Reply)
+abbrev pub refusals : List TableSchema → Plain → ℕ → Transaction → Command → List (Option Reply)
 refusals schemas m s t (commands.Begin level) = inside m s ∷ []
 refusals schemas m s t commands.Commit = outside m s ∷ rolled_back m s ∷ []
 refusals schemas m s t commands.Rollback = outside m s ∷ []
@@ -229,7 +233,7 @@ granted m t (commands.VacuumToast table) = replies.Started
 granted m t (commands.Rewrite table) = replies.Started
 
 -- the first reply of a command whose test holds, once its table is used and its copy is taken
-abbrev pub reply_of : List (List Storage) → Plain → ℕ → Command → Reply
+abbrev pub reply_of : List TableSchema → Plain → ℕ → Command → Reply
 reply_of schemas m s command =
     let t = transaction_of (session_of m s) in
     first_of (refusals schemas m s t command) (granted m t command)

@@ -4,6 +4,7 @@
 
 pub mod changes;
 pub mod journal;
+pub mod laws;
 pub mod rows;
 pub mod state;
 pub mod values;

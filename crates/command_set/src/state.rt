@@ -1,11 +1,12 @@
 //! A state of the plain store: whole copies of the rows in place of snapshots.
 
-ghost use Rattle.command_set.specs.Plain.{first_state, now_of, session_of, view_of, with_session};
+ghost use Rattle.command_set.specs.Plain.{first_state, nth, now_of, session_of, view_of, with_session};
 ghost use Rattle.command_set.specs.Replies.{is_failed, is_outside, new_transaction, transaction_of};
 ghost use Rattle.std.specs.Option.{option_copied, unwrap_or};
-ghost use Rattle.std.specs.Prelude.{◌≡◌, ◌-◌, IfOk, slice_get};
+ghost use Rattle.std.specs.Prelude.{◌≡◌, IfOk};
 
 use crate::rows::{HandleMap, RowMap};
+use crate::values::nth;
 use crate::{Level, Reply};
 use list_facts::ListOf;
 use std::alloc::{AllocError, Global};
@@ -187,9 +188,9 @@ impl Plain {
 
     /// What a session is, from 1; none if it does not exist.
     pub fn session(&self, number: u16) -> Option<&Session>
-        ensures { option_copied result ≡ slice_get self.now.sessions (number - 1) }
+        ensures { option_copied result ≡ nth self.now.sessions number }
     {
-        self.sessions.get(usize::from(number.saturating_sub(1)))
+        nth(self.sessions.as_slice(), usize::from(number))
     }
 
     /// Puts a session, from 1, in the place of what it was. One that does not exist is dropped.

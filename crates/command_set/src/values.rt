@@ -1,6 +1,6 @@
-//! The values of a row, and a row with some of them set anew.
+//! Places counted from 1, the values of a row, and a row with some of them set anew.
 
-ghost use Rattle.command_set.specs.Plain.{row_with, value_at, value_set};
+ghost use Rattle.command_set.specs.Plain.{nth, row_with, value_at, value_set};
 ghost use Rattle.std.specs.Option.{option_copied, unwrap_or};
 ghost use Rattle.std.specs.Prelude.{◌≡◌, IfOk};
 
@@ -9,11 +9,21 @@ use list_facts::ListOf;
 use std::alloc::{AllocError, Global};
 use tuple_layout::{Bytes, Row};
 
+/// What stands at a place of a list, counted from 1; nothing at 0, and past the end.
+pub fn nth<T>(items: &[T], place: usize) -> Option<&T>
+    ensures { option_copied result ≡ nth items.now place }
+{
+    match place.checked_sub(1) {
+        Some(at) => items.get(at),
+        None => None,
+    }
+}
+
 /// The value of a column, from 1; none where it is null or there is no such column.
 pub fn value_at(row: &Row, column: u16) -> Option<&Bytes>
     ensures { option_copied result ≡ value_at row.now column }
 {
-    match row.get(usize::from(column.saturating_sub(1))) {
+    match nth(row.as_slice(), usize::from(column)) {
         Some(value) => value.as_ref(),
         None => None,
     }

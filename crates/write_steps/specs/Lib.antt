@@ -1,0 +1,4 @@
+pub mod Dropped
+pub mod Writes
+pub mod Standing
+pub mod Steps

@@ -1,0 +1,10 @@
+pub mod Ids
+pub mod Places
+pub mod Keeps
+pub mod Versions
+pub mod Chunks
+pub mod Moments
+pub mod Toast
+pub mod Readings
+pub mod Tells
+pub mod Records

@@ -1,0 +1,8 @@
+pub mod Cells
+pub mod Rows
+pub mod Holders
+pub mod Tables
+pub mod Events
+pub mod Laws
+pub mod LookUps
+pub mod Found

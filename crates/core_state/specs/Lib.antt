@@ -1,0 +1,11 @@
+pub mod State
+pub mod Views
+pub mod Commands
+pub mod Lines
+pub mod Begun
+pub mod Coming
+pub mod Events
+pub mod Facts
+pub mod Stands
+pub mod Moves
+pub mod Laws

@@ -8,9 +8,12 @@ use Rattle.std.proofs.lemmas.Bool.Decides.{nat_tests}
 use Rattle.list_facts.proofs.Changed.{get_set_same, get_set_other}
 use Rattle.tuple_layout.specs.declared.Place.{Place}
 use Rattle.tuple_layout.specs.declared.Storage.{Storage}
+use Rattle.tuple_layout.specs.Schemas.{TableSchema, no_columns}
 use Rattle.tuple_layout.specs.declared.Storage.TheVariants.{External}
 use Rattle.tuple_layout.specs.Places.{Row, Rows}
 use Rattle.tuple_layout.specs.Sizes.{all_out_size, column_end, header_size, is_missing, least_out, largest_tuple, width}
+use Rattle.command_set.specs.Plain.{nth}
+use Rattle.command_set.proofs.Numbered.{nth_is}
 use Rattle.command_set.specs.declared.state.Change.TheVariants.{Insert}
 use Rattle.command_set.specs.Changes.{place}
 use Rattle.command_set.specs.declared.state.Plain.{Plain}
@@ -34,14 +37,14 @@ abbrev pub answered : Reply → Plain → Answered
 answered reply after = record { reply = reply; after = after }
 
 -- the answer, once a state in which the command has used its table and its reply are known
-pub answer_is : (schemas : List (List Storage)) (m in_use : Plain) (s : ℕ) (command : Command) (reply : Reply) → once_used m s (session_of m s) (table_of command) ≡ in_use → reply_of schemas in_use s command ≡ reply
+pub answer_is : (schemas : List TableSchema) (m in_use : Plain) (s : ℕ) (command : Command) (reply : Reply) → once_used m s (session_of m s) (table_of command) ≡ in_use → reply_of schemas in_use s command ≡ reply
     → answer schemas m s command ≡ answered reply (settled in_use s command reply)
 answer_is schemas m in_use s command reply used said =
     ap (λ (n : Plain). answered (reply_of schemas n s command) (settled n s command (reply_of schemas n s command))) used
     ∙ ap (λ (r : Reply). answered r (settled in_use s command r)) said
 
 -- the reply, by what the session is in
-reply_by : (schemas : List (List Storage)) (m : Plain) (s : ℕ) (command : Command) (session : Session) → session_of m s ≡ session
+reply_by : (schemas : List TableSchema) (m : Plain) (s : ℕ) (command : Command) (session : Session) → session_of m s ≡ session
     → reply_of schemas m s command ≡ first_of (refusals schemas m s (transaction_of session) command) (granted m (transaction_of session) command)
 reply_by schemas m s command session is = ap (λ (x : Session). first_of (refusals schemas m s (transaction_of x) command) (granted m (transaction_of x) command)) is
 
@@ -60,8 +63,8 @@ passed : (a : Option Reply) (rest : List (Option Reply)) (g : Reply) → a ≡ N
 passed a rest g e = rw e refl
 
 -- a session is at its place
-pub session_at_place : (m : Plain) (s : ℕ) (session : Session) → slice_get m.sessions (s - 1) ≡ Some session → session_of m s ≡ session
-session_at_place m s session at = ap (λ (o : Option Session). unwrap_or o sessions.Outside) at
+pub session_at_place : (m : Plain) (s : ℕ) (session : Session) → 1 ≤ s → slice_get m.sessions (s - 1) ≡ Some session → session_of m s ≡ session
+session_at_place m s session one at = ap (λ (o : Option Session). unwrap_or o sessions.Outside) (nth_is m.sessions s one ∙ at)
 
 -- the sessions of two states are the same but for one, which is this after
 pub record Sessions (m after : Plain) (s : ℕ) (session : Session) : Type 0 where
@@ -94,27 +97,27 @@ none_used m s sessions.Failed = refl
 none_used m s (sessions.Open t) = refl
 
 -- begin
-pub begin_outside : (schemas : List (List Storage)) (m : Plain) (s : ℕ) (level : Level) → session_of m s ≡ sessions.Outside → answer schemas m s (commands.Begin level) ≡ answered replies.Okay (with_transaction m s (new_transaction level))
+pub begin_outside : (schemas : List TableSchema) (m : Plain) (s : ℕ) (level : Level) → session_of m s ≡ sessions.Outside → answer schemas m s (commands.Begin level) ≡ answered replies.Okay (with_transaction m s (new_transaction level))
 begin_outside schemas m s level is = answer_is schemas m m s (commands.Begin level) replies.Okay (none_used m s _) (ap (λ (x : Session). first_of (answers_if (not (is_outside x)) replies.Inside ∷ []) replies.Okay) is)
 
-pub begin_inside : (schemas : List (List Storage)) (m : Plain) (s : ℕ) (level : Level) (session : Session) → session_of m s ≡ session → is_outside session ≡ false → answer schemas m s (commands.Begin level) ≡ answered replies.Inside m
+pub begin_inside : (schemas : List TableSchema) (m : Plain) (s : ℕ) (level : Level) (session : Session) → session_of m s ≡ session → is_outside session ≡ false → answer schemas m s (commands.Begin level) ≡ answered replies.Inside m
 begin_inside schemas m s level session is inside = answer_is schemas m m s (commands.Begin level) replies.Inside (none_used m s _) (ap (λ (x : Session). first_of (answers_if (not (is_outside x)) replies.Inside ∷ []) replies.Okay) is ∙ ap (λ (b : Bool). first_of (answers_if (not b) replies.Inside ∷ []) replies.Okay) inside)
 
 -- commit
-pub commit_outside : (schemas : List (List Storage)) (m : Plain) (s : ℕ) → session_of m s ≡ sessions.Outside → answer schemas m s commands.Commit ≡ answered replies.Outside m
+pub commit_outside : (schemas : List TableSchema) (m : Plain) (s : ℕ) → session_of m s ≡ sessions.Outside → answer schemas m s commands.Commit ≡ answered replies.Outside m
 commit_outside schemas m s is = answer_is schemas m m s commands.Commit replies.Outside (none_used m s _) (refused_first _ _ _ _ (outside_is m s _ is))
 
-pub commit_failed : (schemas : List (List Storage)) (m : Plain) (s : ℕ) → session_of m s ≡ sessions.Failed → answer schemas m s commands.Commit ≡ answered replies.RolledBack (with_session m s sessions.Outside)
+pub commit_failed : (schemas : List TableSchema) (m : Plain) (s : ℕ) → session_of m s ≡ sessions.Failed → answer schemas m s commands.Commit ≡ answered replies.RolledBack (with_session m s sessions.Outside)
 commit_failed schemas m s is = answer_is schemas m m s commands.Commit replies.RolledBack (none_used m s _) (passed _ _ _ (outside_is m s _ is) ∙ refused_first _ _ _ _ (ap (λ (x : Session). answers_if (is_failed x) replies.RolledBack) is))
 
-pub commit_open : (schemas : List (List Storage)) (m : Plain) (s : ℕ) (t : Transaction) → session_of m s ≡ sessions.Open t → answer schemas m s commands.Commit ≡ answered replies.Okay (committed m s)
+pub commit_open : (schemas : List TableSchema) (m : Plain) (s : ℕ) (t : Transaction) → session_of m s ≡ sessions.Open t → answer schemas m s commands.Commit ≡ answered replies.Okay (committed m s)
 commit_open schemas m s t is = answer_is schemas m m s commands.Commit replies.Okay (none_used m s _) (passed _ _ _ (outside_is m s _ is) ∙ passed _ _ _ (ap (λ (x : Session). answers_if (is_failed x) replies.RolledBack) is))
 
 -- rollback
-pub rollback_outside : (schemas : List (List Storage)) (m : Plain) (s : ℕ) → session_of m s ≡ sessions.Outside → answer schemas m s commands.Rollback ≡ answered replies.Outside m
+pub rollback_outside : (schemas : List TableSchema) (m : Plain) (s : ℕ) → session_of m s ≡ sessions.Outside → answer schemas m s commands.Rollback ≡ answered replies.Outside m
 rollback_outside schemas m s is = answer_is schemas m m s commands.Rollback replies.Outside (none_used m s _) (refused_first _ _ _ _ (outside_is m s _ is))
 
-pub rollback_inside : (schemas : List (List Storage)) (m : Plain) (s : ℕ) (session : Session) → session_of m s ≡ session → is_outside session ≡ false → answer schemas m s commands.Rollback ≡ answered replies.Okay (with_session m s sessions.Outside)
+pub rollback_inside : (schemas : List TableSchema) (m : Plain) (s : ℕ) (session : Session) → session_of m s ≡ session → is_outside session ≡ false → answer schemas m s commands.Rollback ≡ answered replies.Okay (with_session m s sessions.Outside)
 rollback_inside schemas m s session is inside = answer_is schemas m m s commands.Rollback replies.Okay (none_used m s _) (passed _ _ _ (outside_is m s session is ∙ ap (λ (b : Bool). answers_if b replies.Outside) inside))
 
 -- a data command on a table, outside a transaction or in a failed one
@@ -124,16 +127,16 @@ used_outside m s table is = ap (λ (x : Session). once_used m s x (Some table)) 
 used_failed : (m : Plain) (s table : ℕ) → session_of m s ≡ sessions.Failed → once_used m s (session_of m s) (Some table) ≡ m
 used_failed m s table is = ap (λ (x : Session). once_used m s x (Some table)) is
 
-pub get_outside : (schemas : List (List Storage)) (m : Plain) (s table : ℕ) (key : ℤ) → session_of m s ≡ sessions.Outside → answer schemas m s (commands.Get table key) ≡ answered replies.Outside m
+pub get_outside : (schemas : List TableSchema) (m : Plain) (s table : ℕ) (key : ℤ) → session_of m s ≡ sessions.Outside → answer schemas m s (commands.Get table key) ≡ answered replies.Outside m
 get_outside schemas m s table key is = answer_is schemas m m s (commands.Get table key) replies.Outside (used_outside m s table is) (refused_first _ _ _ _ (outside_is m s _ is))
 
-pub get_failed : (schemas : List (List Storage)) (m : Plain) (s table : ℕ) (key : ℤ) → session_of m s ≡ sessions.Failed → answer schemas m s (commands.Get table key) ≡ answered replies.Failed m
+pub get_failed : (schemas : List TableSchema) (m : Plain) (s table : ℕ) (key : ℤ) → session_of m s ≡ sessions.Failed → answer schemas m s (commands.Get table key) ≡ answered replies.Failed m
 get_failed schemas m s table key is = answer_is schemas m m s (commands.Get table key) replies.Failed (used_failed m s table is) (passed _ _ _ (outside_is m s _ is) ∙ refused_first _ _ _ _ (failed_is m s _ is))
 
-pub insert_outside : (schemas : List (List Storage)) (m : Plain) (s table : ℕ) (key : ℤ) (row : Row) → session_of m s ≡ sessions.Outside → answer schemas m s (commands.Insert table key row) ≡ answered replies.Outside m
+pub insert_outside : (schemas : List TableSchema) (m : Plain) (s table : ℕ) (key : ℤ) (row : Row) → session_of m s ≡ sessions.Outside → answer schemas m s (commands.Insert table key row) ≡ answered replies.Outside m
 insert_outside schemas m s table key row is = answer_is schemas m m s (commands.Insert table key row) replies.Outside (used_outside m s table is) (refused_first _ _ _ _ (outside_is m s _ is))
 
-pub insert_failed : (schemas : List (List Storage)) (m : Plain) (s table : ℕ) (key : ℤ) (row : Row) → session_of m s ≡ sessions.Failed → answer schemas m s (commands.Insert table key row) ≡ answered replies.Failed m
+pub insert_failed : (schemas : List TableSchema) (m : Plain) (s table : ℕ) (key : ℤ) (row : Row) → session_of m s ≡ sessions.Failed → answer schemas m s (commands.Insert table key row) ≡ answered replies.Failed m
 insert_failed schemas m s table key row is = answer_is schemas m m s (commands.Insert table key row) replies.Failed (used_failed m s table is) (passed _ _ _ (outside_is m s _ is) ∙ refused_first _ _ _ _ (failed_is m s _ is))
 
 -- no session passes a test that none passes
@@ -166,16 +169,16 @@ used_open m s table t is none =
 pub before_use : (m : Plain) (s table : ℕ) (t : Transaction) (rest : List (Option Reply)) (g : Reply) → session_of m s ≡ sessions.Open t → m.upkeep ≡ [] → first_of (outside m s ∷ failed m s ∷ locked (rewriter_of m s table) ∷ rest) g ≡ first_of rest g
 before_use m s table t rest g is none = passed _ _ _ (outside_is m s _ is) ∙ passed _ _ _ (failed_is m s _ is) ∙ passed _ _ _ (ap locked (no_rewriter m s table none))
 
-pub get_open : (schemas : List (List Storage)) (m : Plain) (s table : ℕ) (key : ℤ) (t : Transaction) (found : Option Row) → slice_get m.sessions (s - 1) ≡ Some (sessions.Open t) → m.upkeep ≡ []
+pub get_open : (schemas : List TableSchema) (m : Plain) (s table : ℕ) (key : ℤ) (t : Transaction) (found : Option Row) → 1 ≤ s → slice_get m.sessions (s - 1) ≡ Some (sessions.Open t) → m.upkeep ≡ []
     → map.get (view_of (used_state m s t table) (with_use m t table)) (place table key) ≡ found
     → answer schemas m s (commands.Get table key) ≡ answered (get_reply key found) (used_state m s t table)
-get_open schemas m s table key t found at none view = by found view
+get_open schemas m s table key t found one at none view = by found view
   where
     in_use : Plain
     in_use = used_state m s t table
 
     used : session_of in_use s ≡ sessions.Open (with_use m t table)
-    used = session_at_place in_use s _ (sessions_set m s (sessions.Open t) (sessions.Open (with_use m t table)) at).own
+    used = session_at_place in_use s _ one (sessions_set m s (sessions.Open t) (sessions.Open (with_use m t table)) at).own
 
     rows : Rows
     rows = view_of in_use (with_use m t table)
@@ -184,8 +187,8 @@ get_open schemas m s table key t found at none view = by found view
     reply = reply_by schemas in_use s (commands.Get table key) _ used ∙ before_use in_use s table (with_use m t table) _ _ used none
 
     by : (o : Option Row) → map.get rows (place table key) ≡ o → answer schemas m s (commands.Get table key) ≡ answered (get_reply key o) in_use
-    by None e = answer_is schemas m in_use s (commands.Get table key) replies.Absent (used_open m s table t (session_at_place m s _ at) none) (reply ∙ refused_first _ _ _ _ (ap (λ (o : Option Row). answers_if (is_none o) replies.Absent) e))
-    by (Some row) e = answer_is schemas m in_use s (commands.Get table key) (replies.Row key row) (used_open m s table t (session_at_place m s _ at) none)
+    by None e = answer_is schemas m in_use s (commands.Get table key) replies.Absent (used_open m s table t (session_at_place m s _ one at) none) (reply ∙ refused_first _ _ _ _ (ap (λ (o : Option Row). answers_if (is_none o) replies.Absent) e))
+    by (Some row) e = answer_is schemas m in_use s (commands.Get table key) (replies.Row key row) (used_open m s table t (session_at_place m s _ one at) none)
         (reply ∙ passed _ _ _ (ap (λ (o : Option Row). answers_if (is_none o) replies.Absent) e) ∙ ap (λ (o : Option Row). replies.Row key (unwrap_or o [])) e)
 
 -- one value that may go out, or is too small to go out
@@ -200,13 +203,18 @@ one_column (Some bytes ∷ []) one = small_value bytes (nat_le least_out (length
 one_column (value ∷ next ∷ rest) one = absurd (omega (arith, one))
 
 -- a row of one value is never too big, in a table of one EXTERNAL column or none
-pub never_too_big : (schemas : List (List Storage)) (i : ℕ) (row : Row) → AreBuilt schemas → length row ≡ 1 → nat_lt largest_tuple (all_out_size (unwrap_or (slice_get schemas i) []) row) ≡ false
+never_too_big : (schemas : List TableSchema) (i : ℕ) (row : Row) → AreBuilt schemas → length row ≡ 1 → nat_lt largest_tuple (all_out_size (unwrap_or (slice_get schemas i) no_columns).storages row) ≡ false
 never_too_big [] i [] built one = absurd (omega (arith, one))
 never_too_big [] i (None ∷ []) built one = refl
 never_too_big [] i (Some bytes ∷ []) built one = refl
 never_too_big [] i (value ∷ next ∷ rest) built one = absurd (omega (arith, one))
 never_too_big (schema ∷ schemas) zero row built one = subst (λ (sch : List Storage). nat_lt largest_tuple (all_out_size sch row) ≡ false) (sym built.0) (one_column row one)
 never_too_big (schema ∷ schemas) (suc i) row built one = never_too_big schemas i row built.1 one
+
+-- the same of a table by its number, from 1
+fits_at : (schemas : List TableSchema) (table : ℕ) (row : Row) → AreBuilt schemas → length row ≡ 1 → nat_lt largest_tuple (all_out_size (unwrap_or (nth schemas table) no_columns).storages row) ≡ false
+fits_at schemas zero row built one = never_too_big [] 0 row tt one
+fits_at schemas (suc i) row built one = never_too_big schemas i row built one
 
 abbrev is_at : Option ℕ → ℕ → Bool
 is_at held n = option_map_or (λ holder. holder == n) held false
@@ -276,11 +284,11 @@ abbrev pub insert_after : Plain → ℕ → Transaction → ℕ → ℤ → Row 
 insert_after m s t table key row replies.Okay = with_session (used_state m s t table) s (sessions.Open (with_change (with_use m t table) (Insert table key row)))
 insert_after m s t table key row reply = with_session (used_state m s t table) s sessions.Failed
 
-pub insert_open : (schemas : List (List Storage)) (m : Plain) (s table : ℕ) (key : ℤ) (row : Row) (t : Transaction) (other : Option ℕ) (found : Option Row) → slice_get m.sessions (s - 1) ≡ Some (sessions.Open t) → m.upkeep ≡ [] → AreBuilt schemas → length row ≡ 1
+pub insert_open : (schemas : List TableSchema) (m : Plain) (s table : ℕ) (key : ℤ) (row : Row) (t : Transaction) (other : Option ℕ) (found : Option Row) → 1 ≤ s → slice_get m.sessions (s - 1) ≡ Some (sessions.Open t) → m.upkeep ≡ [] → AreBuilt schemas → length row ≡ 1
     → changer_of (used_state m s t table) s (place table key) ≡ other
     → map.get (now_of (used_state m s t table) (with_use m t table)) (place table key) ≡ found → map.get (view_of (used_state m s t table) (with_use m t table)) (place table key) ≡ found
     → answer schemas m s (commands.Insert table key row) ≡ answered (insert_reply other found) (insert_after m s t table key row (insert_reply other found))
-insert_open schemas m s table key row t other found at none built one changer now view = by other found changer now view
+insert_open schemas m s table key row t other found one at none built single changer now view = by other found changer now view
   where
     in_use : Plain
     in_use = used_state m s t table
@@ -289,19 +297,19 @@ insert_open schemas m s table key row t other found at none built one changer no
     its = with_use m t table
 
     used : session_of in_use s ≡ sessions.Open its
-    used = session_at_place in_use s _ (sessions_set m s (sessions.Open t) (sessions.Open its) at).own
+    used = session_at_place in_use s _ one (sessions_set m s (sessions.Open t) (sessions.Open its) at).own
 
     p : Place
     p = place table key
 
     in_using : once_used m s (session_of m s) (Some table) ≡ in_use
-    in_using = used_open m s table t (session_at_place m s _ at) none
+    in_using = used_open m s table t (session_at_place m s _ one at) none
 
     reply : reply_of schemas in_use s (commands.Insert table key row) ≡ first_of (busy in_use s p ∷ taken in_use its p ∷ too_big (schema_of schemas table) row ∷ []) replies.Okay
     reply = reply_by schemas in_use s (commands.Insert table key row) _ used ∙ before_use in_use s table its _ _ used none
 
     fits : too_big (schema_of schemas table) row ≡ None
-    fits = ap (λ (b : Bool). answers_if b (replies.TooBig (all_out_size (schema_of schemas table) row))) (never_too_big schemas (table - 1) row built one)
+    fits = ap (λ (b : Bool). answers_if b (replies.TooBig (all_out_size (schema_of schemas table).storages row))) (fits_at schemas table row built single)
 
     failed_after : with_failure in_use s ≡ with_session in_use s sessions.Failed
     failed_after = ap (λ (x : Session). with_session in_use s (failed_session x)) used

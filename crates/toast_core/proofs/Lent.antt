@@ -6,7 +6,7 @@ use Rattle.std.specs.FinMap as map
 use Rattle.std.proofs.lemmas.Bool.Decides.{nat_tests}
 use Rattle.std.proofs.lemmas.List.{length-drop, take_more}
 use Rattle.tuple_layout.specs.declared.Place.{Place}
-use Rattle.tuple_layout.specs.declared.Storage.{Storage}
+use Rattle.tuple_layout.specs.Schemas.{TableSchema}
 use Rattle.tuple_layout.specs.Places.{Row, place_cmp, same_place}
 use Rattle.xact_status.specs.Xacts.{Xacts, first_xid, is_running, session_at, session_of}
 use Rattle.snapshot_registry.specs.Snapshots.{Snaps, is_registered, after_release}
@@ -227,7 +227,7 @@ new_seat (suc n) zero seat e = cc
 new_seat (suc n) (suc i) seat e = new_seat n i seat e
 
 -- a new core is sound
-pub sound_new : (schemas : List (List Storage)) (n : ℕ) → AreBuilt schemas → IsSound (record { schemas = schemas; xacts = []; snaps = []; claims = []; versions = []; pieces = []; seats = replicate n nobody })
+pub sound_new : (schemas : List TableSchema) (n : ℕ) → AreBuilt schemas → IsSound (record { schemas = schemas; xacts = []; snaps = []; claims = []; versions = []; pieces = []; seats = replicate n nobody })
 sound_new schemas n built = record {
   schemas = built;
   registry = registry_none;
@@ -254,7 +254,7 @@ sound_new schemas n built = record {
         by false e = absurd (cc)
 
 -- a new core stands for the plain store's first state
-pub stands_new : (schemas : List (List Storage)) (n : ℕ) → Stands (record { schemas = schemas; xacts = []; snaps = []; claims = []; versions = []; pieces = []; seats = replicate n nobody }) (first_state n) (replicate n None)
+pub stands_new : (schemas : List TableSchema) (n : ℕ) → Stands (record { schemas = schemas; xacts = []; snaps = []; claims = []; versions = []; pieces = []; seats = replicate n nobody }) (first_state n) (replicate n None)
 stands_new schemas n = record {
   latest = λ p. map.get-empty place_cmp p;
   sessions = λ i. each n i;
@@ -271,6 +271,6 @@ stands_new schemas n = record {
     idle e = absurd (cc)
 
 -- a core of these parts is a new one
-pub new_is : (schemas its : List (List Storage)) (xacts : Xacts) (snaps : Snaps) (claims : List Claim) (versions : List Version) (pieces : List Piece) (seats : List Seat) (n : ℕ) → its ≡ schemas → xacts ≡ [] → snaps ≡ [] → claims ≡ [] → versions ≡ [] → pieces ≡ [] → seats ≡ replicate n nobody
+pub new_is : (schemas its : List TableSchema) (xacts : Xacts) (snaps : Snaps) (claims : List Claim) (versions : List Version) (pieces : List Piece) (seats : List Seat) (n : ℕ) → its ≡ schemas → xacts ≡ [] → snaps ≡ [] → claims ≡ [] → versions ≡ [] → pieces ≡ [] → seats ≡ replicate n nobody
     → ◌≡◌ {A = CoreState} (record { schemas = schemas; xacts = []; snaps = []; claims = []; versions = []; pieces = []; seats = replicate n nobody }) (record { schemas = its; xacts = xacts; snaps = snaps; claims = claims; versions = versions; pieces = pieces; seats = seats })
 new_is schemas its xacts snaps claims versions pieces seats n a b c d e f g = λ i. record { schemas = sym a i; xacts = sym b i; snaps = sym c i; claims = sym d i; versions = sym e i; pieces = sym f i; seats = sym g i }

@@ -118,7 +118,7 @@ refuse c s command reply there is each =
     })
 
 its_of : (m : Plain) (s : ℕ) (seat : Seat) (changes : List Change) → (its : IsLike m s seat changes) → session_of m s ≡ its.session
-its_of m s seat changes its = session_at_place m s its.session its.at
+its_of m s seat changes its = session_at_place m s its.session its.from_one its.at
 
 outside_of : (m : Plain) (s : ℕ) (seat : Seat) (changes : List Change) → seat.state ≡ states.Outside → IsLike m s seat changes → session_of m s ≡ sessions.Outside
 outside_of m s seat changes is its = its_of m s seat changes its ∙ outside_by its.session seat.state changes is its.like
@@ -309,7 +309,7 @@ get_over c s table key found reply there is inside sound at reply_is =
     let used = is_used c s table (commands.Get table key) m told there is inside sound stands in
     record {
       next = used_state m s used.t table;
-      is = get_open c.schemas m s table key used.t (option_map (row_of c.pieces) found) used.at stands.upkeep (used.view (place table key) ∙ ap (option_map (row_of c.pieces)) at) ∙ ap (λ (r : Reply). answered r (used_state m s used.t table)) (sym reply_is);
+      is = get_open c.schemas m s table key used.t (option_map (row_of c.pieces) found) there.from_one used.at stands.upkeep (used.view (place table key) ∙ ap (option_map (row_of c.pieces)) at) ∙ ap (λ (r : Reply). answered r (used_state m s used.t table)) (sym reply_is);
       stands = stands_said c c.xacts c.snaps c.claims s (seat_of c s).state jobs.Idle m (used_state m s used.t table) told reply (sessions.Open (with_use m used.t table)) there counted stands refl refl (λ p. refl)
           (sessions_set m s (sessions.Open used.t) (sessions.Open (with_use m used.t table)) used.at) used.like (λ said pends. absurd (cc));
     })
@@ -328,7 +328,7 @@ get_begun c s table key version id size there is inside sound at cut =
     record {
       reply = replies.Row key (row_of c.pieces version);
       next = used_state m s used.t table;
-      is = get_open c.schemas m s table key used.t (Some (row_of c.pieces version)) used.at stands.upkeep (used.view (place table key) ∙ ap (option_map (row_of c.pieces)) at);
+      is = get_open c.schemas m s table key used.t (Some (row_of c.pieces version)) there.from_one used.at stands.upkeep (used.view (place table key) ∙ ap (option_map (row_of c.pieces)) at);
       stands = stands_said c c.xacts (after_take c.snaps c.xacts) c.claims s (seat_of c s).state (jobs.Reading job) m (used_state m s used.t table) told (replies.Row key (row_of c.pieces version)) (sessions.Open (with_use m used.t table)) there counted stands refl refl (λ p. refl)
           (sessions_set m s (sessions.Open used.t) (sessions.Open (with_use m used.t table)) used.at) used.like (λ said pends. said_is said pends);
       says = (refl, refl, ap (λ (seat : Seat). is_past_moment seat.job) (job_begun c s (seat_of c s).state (jobs.Reading job) there));

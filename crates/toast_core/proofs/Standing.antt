@@ -44,6 +44,7 @@ use Rattle.toast_core.proofs.Answered.{Sessions}
 -- what a session of the plain store is, where it stands as a session of a core does
 pub record IsLike (m : Plain) (s : ℕ) (seat : Seat) (changes : List Change) : Type 0 where
   pub session : Session
+  pub from_one : 1 ≤ s
   pub at : slice_get m.sessions (s - 1) ≡ Some session
   pub like : standing_of session ≡ standing_with seat.state changes
 
@@ -55,7 +56,7 @@ like_by (Some session) standing e = (session, refl, cc)
 pub its_session : (c : CoreState) (s : ℕ) (m : Plain) (told : List (Option Reply)) → IsSession c.seats s → Stands c m told → IsLike m s (seat_of c s) (changes_in c.pieces c.versions (seat_of c s))
 its_session c s m told there stands =
     let at = like_by (slice_get m.sessions (s - 1)) (standing_in c.pieces c.versions (seat_of c s)) (stands.sessions (s - 1) ∙ ap (option_map (standing_in c.pieces c.versions)) (seat_there c.seats s there)) in
-    record { session = at.0; at = at.1; like = at.2 }
+    record { session = at.0; from_one = there.from_one; at = at.1; like = at.2 }
 
 -- a session that stands outside is outside
 pub outside_by : (session : Session) (state : State) (changes : List Change) → state ≡ states.Outside → standing_of session ≡ standing_with state changes → session ≡ sessions.Outside

@@ -163,7 +163,7 @@ insert_fails c s table key row found reply there is inside one sound at said ref
     (λ m told counted stands.
     let used = is_used c s table (commands.Insert table key row) m told there is inside sound stands in
     let row_there = ap (option_map (row_of c.pieces)) at in
-    let answer_is = insert_open c.schemas m s table key row used.t (other_than s (holder_of c.claims (place table key))) (option_map (row_of c.pieces) found) used.at stands.upkeep sound.schemas one
+    let answer_is = insert_open c.schemas m s table key row used.t (other_than s (holder_of c.claims (place table key))) (option_map (row_of c.pieces) found) there.from_one used.at stands.upkeep sound.schemas one
     (changer_is c s table (commands.Insert table key row) (place table key) m told there is sound stands used) (used.now (place table key) ∙ row_there) (used.view (place table key) ∙ row_there) in
     record {
       next = with_session (used_state m s used.t table) s sessions.Failed;
@@ -214,7 +214,7 @@ insert_begun c s table key row value there is inside row_is sound at free =
     record {
       reply = replies.Okay;
       next = next;
-      is = insert_open c.schemas m s table key row used.t None None used.at stands.upkeep sound.schemas (ap length row_is)
+      is = insert_open c.schemas m s table key row used.t None None there.from_one used.at stands.upkeep sound.schemas (ap length row_is)
           (changer_is c s table (commands.Insert table key row) (place table key) m told there is sound stands used ∙ free) (used.now (place table key) ∙ none) (used.view (place table key) ∙ none);
       stands = stands_said c (once_assigned c.xacts s (xid_of (seat_of c s).state)) c.snaps (c.claims ++ (record { session = s; place = place table key }) ∷ []) s new_state (jobs.Writing job) m next told replies.Okay (sessions.Open (with_change (with_use m used.t table) (Insert table key row))) there counted stands refl refl
           (rows_assigned (xid_of (seat_of c s).state))
@@ -417,7 +417,7 @@ pub falls : (c : CoreState) (s : ℕ) → IsSession c.seats s → IsSound c → 
 falls c s there sound = record {
   stands = λ m told stands.
       let its = its_session c s m told there stands in
-      let at = session_at_place m s its.session its.at in
+      let at = session_at_place m s its.session its.from_one its.at in
       let those = sessions_set m s its.session (failed_session its.session) its.at in
       subst (λ (x : Session). Stands (after_failing c s) (with_session m s (failed_session x)) told) (sym at)
       (stands_by c (once_aborted c.xacts (xid_of (seat_of c s).state)) (once_released c.snaps (seat_of c s).job) (given_up s c.claims) c.versions c.pieces s (failed_state (seat_of c s).state) jobs.Idle m (with_session m s (failed_session its.session)) told told (failed_session its.session) there stands

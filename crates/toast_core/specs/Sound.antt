@@ -3,7 +3,7 @@ use Rattle.std.specs.Prelude.{◌≡◌, ◌≢◌, ℕ, suc, ◌+◌, ◌-◌, 
 use Rattle.std.specs.Option.{option_map, option_map_or}
 use Rattle.std.specs.List.{find}
 use Rattle.tuple_layout.specs.declared.Place.{Place}
-use Rattle.tuple_layout.specs.declared.Storage.{Storage}
+use Rattle.tuple_layout.specs.Schemas.{TableSchema}
 use Rattle.tuple_layout.specs.declared.Storage.TheVariants.{External}
 use Rattle.tuple_layout.specs.Places.{same_place}
 use Rattle.xact_status.specs.Xacts.{Xacts, IsAssigned, session_at}
@@ -38,9 +38,9 @@ IsBuilt (commands.Insert table key row) = length row ≡ 1
 IsBuilt command = ⊥
 
 -- each table has one EXTERNAL column
-abbrev pub AreBuilt : List (List Storage) → Type 0
+abbrev pub AreBuilt : List TableSchema → Type 0
 AreBuilt [] = Unit {0}
-AreBuilt (schema ∷ schemas) = (schema ≡ External ∷ []) × AreBuilt schemas
+AreBuilt (schema ∷ schemas) = (schema.storages ≡ External ∷ []) × AreBuilt schemas
 
 -- the session that has claimed a place, if one has
 abbrev pub holder_of : List Claim → Place → Option ℕ

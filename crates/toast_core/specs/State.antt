@@ -3,7 +3,7 @@ use Rattle.std.specs.Prelude.{ℕ, ◌-◌, ◌≤◌, Bool, false, ◌&&◌, �
 use Rattle.std.specs.List.{find}
 use Rattle.std.specs.Option.{option_map_or}
 use Rattle.tuple_layout.specs.declared.Place.{Place}
-use Rattle.tuple_layout.specs.declared.Storage.{Storage}
+use Rattle.tuple_layout.specs.Schemas.{TableSchema}
 use Rattle.tuple_layout.specs.Places.{Row, same_place}
 use Rattle.xact_status.specs.Xacts.{Xacts, is_running, is_committed}
 use Rattle.snapshot_registry.specs.Snapshots.{Snaps}
@@ -24,7 +24,7 @@ use Rattle.toast_core.specs.declared.parts.Seat.{Seat}
 
 -- a core: the tables' schemas, the statuses of transactions, the registered snapshots, the claimed places, the row versions, the pieces of long values, and each session with what it has under way
 pub record CoreState : Type 0 where
-  pub schemas : List (List Storage)
+  pub schemas : List TableSchema
   pub xacts : Xacts
   pub snaps : Snaps
   pub claims : List Claim

@@ -1,8 +1,9 @@
 -- The size of a row's tuple with every column out of line that may be, from value to value.
-use Rattle.std.proofs.Common.{◌≡◌, ℕ, ◌+◌, ◌-◌, ◌≤◌, length, List, [], ◌∷◌, Option, Some, None, Bool, true, false, refl, sym, ap, ◌∙◌, arith, zero-add, zero, suc, drop}
+use Rattle.std.proofs.Common.{◌≡◌, ℕ, ◌+◌, ◌-◌, ◌≤◌, ◌<◌, get_or, length, List, [], ◌∷◌, Option, Some, None, Bool, true, false, refl, sym, ap, ◌∙◌, arith, zero-add, zero, suc, drop}
 use Rattle.std.specs.Prelude.{map as mapped, slice_get, is_none, ◌||◌}
 use Rattle.std.specs.List.{enumerate_from, list_any}
 use Rattle.std.specs.Option.{option_map_or}
+use Rattle.std.proofs.Math.Seq.{drop-cons}
 use Rattle.tuple_layout.specs.declared.Storage.{Storage}
 use Rattle.tuple_layout.specs.Places.{Row}
 use Rattle.tuple_layout.specs.Sizes.{all_out_size, column_end, data_end_from, header_size, is_eligible, is_eligible_column, is_missing, width, widths}
@@ -55,3 +56,12 @@ pub all_out_is : (schema : List Storage) (row : Row) (size : ℕ) → size ≡ h
 all_out_is schema row size e =
     e ∙ ap (λ b. header_size (length schema + 1) b + data_end_all_out 8 schema row) (sym (missing_nulls (is_eligible_column schema row) row))
     ∙ ap (λ n. header_size (length schema + 1) (list_any is_missing (widths row (is_eligible_column schema row))) + n) (sym (all_out_end 8 schema row))
+
+-- a value more: what stands at a place in the row is added
+pub one_more : (at i n next total : ℕ) (ss : List Storage) (row : Row) (s : Storage) (v : Option (List ℕ)) (ds : Storage) (dv : Option (List ℕ)) → n ≡ suc i → i < length ss → i < length row
+    → s ≡ get_or ss i ds → v ≡ get_or row i dv → next ≡ column_end s at (width v (is_eligible s v)) → data_end_all_out at (drop i ss) (drop i row) ≡ total → data_end_all_out next (drop n ss) (drop n row) ≡ total
+one_more at i n next total ss row s v ds dv follows here there storage value is so_far =
+    let schema_cons : drop i ss ≡ s ∷ drop (suc i) ss = drop-cons ss i ds here ∙ ap (λ x. x ∷ drop (suc i) ss) (sym storage) in
+    let row_cons : drop i row ≡ v ∷ drop (suc i) row = drop-cons row i dv there ∙ ap (λ x. x ∷ drop (suc i) row) (sym value) in
+    ap (λ k. data_end_all_out next (drop k ss) (drop k row)) follows ∙ ap (λ end. data_end_all_out end (drop (suc i) ss) (drop (suc i) row)) is
+    ∙ sym (ap (λ xs. data_end_all_out at xs (drop i row)) schema_cons ∙ ap (data_end_all_out at (s ∷ drop (suc i) ss)) row_cons) ∙ so_far

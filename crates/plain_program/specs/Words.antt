@@ -4,6 +4,7 @@ use Rattle.std.specs.List.{list_any}
 use Rattle.std.specs.Option.{option_or}
 use Rattle.tuple_layout.specs.declared.Place.{Place}
 use Rattle.tuple_layout.specs.declared.Storage.{Storage}
+use Rattle.tuple_layout.specs.Schemas.{TableSchema}
 use Rattle.tuple_layout.specs.Places.{Row}
 use Rattle.tuple_layout.specs.Sizes.{column_end, is_eligible, width}
 use Rattle.tuple_layout.specs.Slices.{last_place}
@@ -42,16 +43,16 @@ stands_in m (Upkeep table kind) n session = runs_in_conflict m n table kind || (
 stands_in m (Rewrite table) n session = is_rewriter m.upkeep n table
 
 -- the first reply of a command whose test holds, where t is the session's transaction
-abbrev pub reply_within : List (List Storage) → Plain → ℕ → Transaction → Command → Reply
+abbrev pub reply_within : List TableSchema → Plain → ℕ → Transaction → Command → Reply
 reply_within schemas m s t command = first_of (refusals schemas m s t command) (granted m t command)
 
 -- the reply to an update that puts this row at a place
-abbrev pub update_reply : List (List Storage) → Plain → ℕ → Transaction → Place → Row → Reply
+abbrev pub update_reply : List TableSchema → Plain → ℕ → Transaction → Place → Row → Reply
 update_reply schemas m s t p row =
     first_of (refused_before_use m s p.table ++ absent (view_of m t) p ∷ busy m s p ∷ changed t p ∷ too_big (schema_of schemas p.table) row ∷ []) replies.Okay
 
 -- the reply to a move from one place to another that puts this row
-abbrev pub rekey_reply : List (List Storage) → Plain → ℕ → Transaction → Place → Place → Row → Reply
+abbrev pub rekey_reply : List TableSchema → Plain → ℕ → Transaction → Place → Place → Row → Reply
 rekey_reply schemas m s t p q row =
     first_of (refused_before_use m s p.table ++ absent (view_of m t) p ∷ busy m s p ∷ changed t p ∷ busy m s q ∷ taken m t q ∷ too_big (schema_of schemas p.table) row ∷ []) replies.Okay
 

@@ -61,7 +61,11 @@ fn take_open(alloc: Global, store: &mut Plain, session: u16) -> Transaction
     if at >= store.sessions.len() {
         return Transaction::begin(alloc, Level::Rc);
     }
-    transaction_of(alloc, exchange_in(alloc, store, at, Session::Outside))
+    let was = exchange_in(alloc, store, at, Session::Outside);
+    if session == 0 {
+        return Transaction::begin(alloc, Level::Rc);
+    }
+    transaction_of(alloc, was)
 }
 
 // Takes the copy of a repeatable read transaction that has none.

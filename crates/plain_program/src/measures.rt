@@ -9,7 +9,7 @@ ghost use Rattle.tuple_layout.specs.Slices.{slice};
 
 use list_facts::ListOf;
 use std::alloc::{AllocError, Global};
-use tuple_layout::{Bytes, Row, Storage};
+use tuple_layout::{Bytes, KEY_SIZE, POINTER_SIZE, Row, Storage, is_short, may_go_out};
 
 /// The part of a value that is asked for, in bytes. A negative length leads to the value's end.
 #[derive(Clone, Copy)]
@@ -87,16 +87,13 @@ fn bytes_end(storage: Storage, at: u128, bytes: &[u8]) -> u128
     ensures end { result ≡ column_end storage at (width (Some bytes.now) (is_eligible storage (Some bytes.now))) }
     ensures near { result ≤ at + 2 ^ 65 }
 {
-    let length = bytes.len() as u128;
-    match storage {
-        Storage::Plain => (at + 3) / 4 * 4 + 4 + length,
-        Storage::External => {
-            if length < 21 {
-                at + 1 + length
-            } else {
-                at + 18
-            }
-        }
+    let length = bytes.len();
+    if may_go_out(storage, length) {
+        at + POINTER_SIZE as u128
+    } else if is_short(storage, length) {
+        at + 1 + length as u128
+    } else {
+        (at + 3) / 4 * 4 + 4 + length as u128
     }
 }
 
@@ -118,7 +115,7 @@ fn data_end(schema: &[Storage], row: &[Option<Bytes>]) -> u128
     ensures end { result ≡ data_end_all_out 8 schema.now row.now }
     ensures small { result < 2 ^ 100 }
 {
-    let mut at: u128 = 8;
+    let mut at = KEY_SIZE as u128;
     for (column, storage) in schema.iter().enumerate() {
         match row.get(column) {
             None => return at,

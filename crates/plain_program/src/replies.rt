@@ -18,17 +18,17 @@ use crate::refusals::{
 };
 use command_set::changes::place_of;
 use command_set::state::{Plain, Transaction, Upkeep};
-use command_set::values::{row_with, value_at};
+use command_set::values::{nth, row_with, value_at};
 use command_set::{Command, Level, Reply, Row, SchemaList, SetList};
 use std::alloc::{AllocError, Global};
-use tuple_layout::{Place, Storage};
+use tuple_layout::{LARGEST_TUPLE, Place, Storage};
 
 // The storages of a table's columns; none where there is no such table.
-fn schema_of(schemas: &SchemaList, table: u16) -> &[Storage]
-    ensures all { result.now ≡ schema_of schemas.now table }
+fn storages_of(schemas: &SchemaList, table: u16) -> &[Storage]
+    ensures all { result.now ≡ (schema_of schemas.now table).storages }
     ensures few { length result.now ≤ 8 }
 {
-    match schemas.get(usize::from(table.saturating_sub(1))) {
+    match nth(schemas.as_slice(), usize::from(table)) {
         Some(schema) => schema.storages(),
         None => &[],
     }
@@ -61,15 +61,15 @@ fn row_reply(place: &Place, row: Row) -> Reply
 }
 
 // The reply to a write of a row: this refusal, else that the tuple is too big, else that it is done.
-fn sized_reply(refusal: Option<Reply>, schema: &[Storage], row: &Row) -> Result<Reply, PlainFault>
-    requires { length schema.now ≤ 8 }
-    ensures ok { IfOk result (λ reply. reply ≡ unwrap_or (option_or refusal (too_big schema.now row.now)) Reply.Okay) }
-    ensures range { IsErrOf result PlainFault.Range → is_beyond (unwrap_or (option_or refusal (too_big schema.now row.now)) Reply.Okay) ≡ true }
+fn sized_reply(refusal: Option<Reply>, storages: &[Storage], row: &Row) -> Result<Reply, PlainFault>
+    requires { length storages.now ≤ 8 }
+    ensures ok { IfOk result (λ reply. reply ≡ unwrap_or (option_or refusal (too_big (record { storages = storages.now }) row.now)) Reply.Okay) }
+    ensures range { IsErrOf result PlainFault.Range → is_beyond (unwrap_or (option_or refusal (too_big (record { storages = storages.now }) row.now)) Reply.Okay) ≡ true }
 {
     match refusal {
         Some(reply) => Ok(reply),
         None => {
-            let reply = size_reply(all_out_size(schema, row))?;
+            let reply = size_reply(all_out_size(storages, row))?;
             Ok(reply)
         }
     }
@@ -80,7 +80,7 @@ fn size_reply(size: u128) -> Result<Reply, PlainFault>
     ensures ok { IfOk result (λ reply. reply ≡ (if nat_lt largest_tuple size then Reply.TooBig size else Reply.Okay)) }
     ensures range { IsErrOf result PlainFault.Range → 2 ^ 32 ≤ size }
 {
-    if size <= 8160 {
+    if size <= LARGEST_TUPLE as u128 {
         return Ok(Reply::Okay);
     }
     match u32::try_from(size) {
@@ -193,7 +193,7 @@ fn to_insert(
     let refusal = refused_before_use(store, session, place.table)
         .or(busy(store, session, place))
         .or(taken);
-    let reply = sized_reply(refusal, schema_of(schemas, place.table), row)?;
+    let reply = sized_reply(refusal, storages_of(schemas, place.table), row)?;
     Ok(reply)
 }
 
@@ -229,7 +229,7 @@ fn to_update(
     ensures range { IsErrOf result PlainFault.Range → is_beyond (update_reply schemas.now store.now session transaction.now place.now row.now) ≡ true }
 {
     let refusal = refused_change(store, session, transaction, place)?;
-    let reply = sized_reply(refusal, schema_of(schemas, place.table), row)?;
+    let reply = sized_reply(refusal, storages_of(schemas, place.table), row)?;
     Ok(reply)
 }
 
@@ -264,7 +264,7 @@ fn to_rekey(
     let refusal = refused_change(store, session, transaction, from)?
         .or(busy(store, session, to))
         .or(taken);
-    let reply = sized_reply(refusal, schema_of(schemas, from.table), row)?;
+    let reply = sized_reply(refusal, storages_of(schemas, from.table), row)?;
     Ok(reply)
 }
 

@@ -7,5 +7,5 @@ use Rattle.plain_program.proofs.replies.to_insert.Goals as goal
 pub returns-clause-ok : goal.returns-clause-ok
 returns-clause-ok c =
     c.in_ok-reply.ensures.ok
-    ∙ rw (c.or-refusal.ensures, c.or.ensures, c.refused_before_use.ensures, c.busy.ensures, c.in_ok-taken.ensures, c.schema_of.ensures.all)
+    ∙ rw (c.or-refusal.ensures, c.or.ensures, c.refused_before_use.ensures, c.busy.ensures, c.in_ok-taken.ensures, c.storages_of.ensures.all)
     (said (refused_before_use c.args.store.now c.args.session c.args.place.now.table) (busy c.args.store.now c.args.session c.args.place.now ∷ taken c.args.store.now c.args.transaction.now c.args.place.now ∷ too_big (schema_of c.args.schemas.now c.args.place.now.table) c.args.row.now ∷ []) Okay)

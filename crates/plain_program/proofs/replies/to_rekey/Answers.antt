@@ -8,5 +8,5 @@ use Rattle.plain_program.proofs.replies.to_rekey.Goals as goal
 pub returns-clause-ok : goal.returns-clause-ok
 returns-clause-ok c =
     c.in_ok-reply.ensures.ok
-    ∙ rw (c.or-refusal.ensures, c.or.ensures, c.in_ok-refused_change.ensures, c.busy.ensures, c.in_ok-taken.ensures, c.schema_of.ensures.all)
+    ∙ rw (c.or-refusal.ensures, c.or.ensures, c.in_ok-refused_change.ensures, c.busy.ensures, c.in_ok-taken.ensures, c.storages_of.ensures.all)
     (said (refused_before_use c.args.store.now c.args.session c.args.from.now.table ++ absent (view_of c.args.store.now c.args.transaction.now) c.args.from.now ∷ busy c.args.store.now c.args.session c.args.from.now ∷ changed c.args.transaction.now c.args.from.now ∷ []) (busy c.args.store.now c.args.session c.args.to.now ∷ taken c.args.store.now c.args.transaction.now c.args.to.now ∷ too_big (schema_of c.args.schemas.now c.args.from.now.table) c.args.row.now ∷ []) Okay)

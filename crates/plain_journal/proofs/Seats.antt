@@ -2,7 +2,7 @@
 use Rattle.std.proofs.Common.{◌≡◌, ℕ, ◌-◌, List, Option, Some, None, Bool, true, false, length, refl, ◌∙◌}
 use Rattle.std.specs.Prelude.{is_some, if◌then◌else◌, map as mapped}
 use Rattle.std.proofs.lemmas.List.{length-map, length-set}
-use Rattle.tuple_layout.specs.declared.Storage.{Storage}
+use Rattle.tuple_layout.specs.Schemas.{TableSchema}
 use Rattle.command_set.specs.declared.Command.{Command}
 use Rattle.command_set.specs.declared.Command.TheVariants as commands
 use Rattle.command_set.specs.declared.JournalEntry.{JournalEntry}
@@ -19,7 +19,8 @@ use Rattle.command_set.specs.declared.state.Transaction.{Transaction}
 use Rattle.command_set.specs.Plain.{session_of, with_session}
 use Rattle.command_set.specs.Replies.{fails, is_granted, reply_of, rewriter_of, transaction_of}
 use Rattle.command_set.specs.Answers.{answer, effect, once_used, refused, settled, table_of, told_by, with_failure, with_use}
-use Rattle.command_set.specs.Journals.{after_kind, command_at, without_upkeep}
+use Rattle.std.specs.Option.{option_map, option_map_or}
+use Rattle.command_set.specs.Journals.{after_entry, after_moment, came_of, command_at, cut_short, moment_at, runs_upkeep, without_upkeep}
 
 -- how many sessions a state has
 abbrev pub seats : Plain → ℕ
@@ -67,18 +68,24 @@ settled_seats : (m : Plain) (s : ℕ) (command : Command) (reply : Reply) → se
 settled_seats m s command reply = either (is_granted reply) (effect m s (transaction_of (session_of m s)) command) (refused m s reply) (seats m) (effect_seats m s (transaction_of (session_of m s)) command) (refused_seats m s reply)
 
 -- an answer leaves as many sessions
-pub answer_seats : (schemas : List (List Storage)) (m : Plain) (s : ℕ) (command : Command) → seats (answer schemas m s command).after ≡ seats m
+pub answer_seats : (schemas : List TableSchema) (m : Plain) (s : ℕ) (command : Command) → seats (answer schemas m s command).after ≡ seats m
 answer_seats schemas m s command =
     let in_use = once_used m s (session_of m s) (table_of command) in
     settled_seats in_use s command (reply_of schemas in_use s command) ∙ used_seats m s (session_of m s) (table_of command)
 
-moment_seats : (script : Script) (run : Run) (e : JournalEntry) (command : Option Command) → command ≡ command_at script e.session e.number → seats (after_kind script run e kinds.Run).plain ≡ seats run.plain
-moment_seats script run e None is = rw (← is) refl
-moment_seats script run e (Some command) is = rw (← is) (answer_seats script.schemas run.plain e.session command)
+cut_seats : (m : Plain) (s : ℕ) → seats (cut_short m s) ≡ seats m
+cut_seats m s = either (runs_upkeep m s) (without_upkeep m s) (with_failure m s) (seats m) refl (failure_seats m s)
+
+came_seats : (script : Script) (m : Plain) (s : ℕ) (command : Command) (kind : Kind) → seats (came_of script m s command kind).after ≡ seats m
+came_seats script m s command kinds.Run = answer_seats script.schemas m s command
+came_seats script m s command kinds.End = refl
+came_seats script m s command kinds.NoValueId = cut_seats m s
+came_seats script m s command kinds.Memory = cut_seats m s
 
 -- an entry leaves as many sessions
-pub entry_seats : (script : Script) (run : Run) (e : JournalEntry) (kind : Kind) → seats (after_kind script run e kind).plain ≡ seats run.plain
-entry_seats script run e kinds.Run = moment_seats script run e (command_at script e.session e.number) refl
-entry_seats script run e kinds.End = refl
-entry_seats script run e kinds.NoValueId = failure_seats (without_upkeep run.plain e.session) e.session
-entry_seats script run e kinds.Memory = failure_seats (without_upkeep run.plain e.session) e.session
+pub entry_seats : (script : Script) (run : Run) (e : JournalEntry) → seats (after_entry script run e).plain ≡ seats run.plain
+entry_seats script run e = by (command_at script e.session e.number)
+  where
+    by : (o : Option Command) → seats (option_map_or (after_moment run) (option_map (λ command. moment_at run.plain e command (came_of script run.plain e.session command e.kind)) o) run).plain ≡ seats run.plain
+    by None = refl
+    by (Some command) = came_seats script run.plain e.session command e.kind

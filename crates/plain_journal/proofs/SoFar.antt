@@ -3,6 +3,7 @@ use Rattle.std.proofs.Common.{◌≡◌, ℕ, ◌+◌, ◌<◌, ◌^◌, List, B
 use Rattle.std.specs.Prelude.{◌||◌, ◌&&◌}
 use Rattle.std.proofs.lemmas.List.{length-replicate}
 use Rattle.command_set.proofs.Steps.{drop_step}
+use Rattle.command_set.proofs.Moments.{run_on-cons}
 use Rattle.command_set.specs.declared.JournalEntry.{JournalEntry}
 use Rattle.command_set.specs.declared.Script.{Script}
 use Rattle.command_set.specs.declared.journal.Run.{Run}
@@ -36,14 +37,14 @@ begins script journal run few is = subst (IsSoFar script journal 0) (sym is) (re
 -- after one entry more
 pub goes_on : (script : Script) (journal : List JournalEntry) (i : ℕ) (run next : Run) (e : JournalEntry) → i < length journal → e ≡ get_or journal i e → next ≡ after_entry script run e → IsSoFar script journal i run → IsSoFar script journal (i + 1) next
 goes_on script journal i run next e h at is so = subst (IsSoFar script journal (i + 1)) (sym is) (record {
-  told = sym (ap (run_on script run) (drop_step journal i e h at)) ∙ so.told;
-  beyond = λ b. so.beyond (ap (is_beyond_on script run) (drop_step journal i e h at) ∙ or_right (is_beyond_at script run e e.kind) (is_beyond_on script (after_entry script run e) (drop (i + 1) journal)) b);
-  few = subst (λ n. n < 2 ^ 16) (sym (entry_seats script run e e.kind)) so.few;
+  told = sym (ap (run_on script run) (drop_step journal i e h at) ∙ run_on-cons script run e (drop (i + 1) journal)) ∙ so.told;
+  beyond = λ b. so.beyond (ap (is_beyond_on script run) (drop_step journal i e h at) ∙ or_right (is_beyond_at script run e) (is_beyond_on script (after_entry script run e) (drop (i + 1) journal)) b);
+  few = subst (λ n. n < 2 ^ 16) (sym (entry_seats script run e)) so.few;
 })
 
 -- an entry that answers beyond its type
-pub stops : (script : Script) (journal : List JournalEntry) (i : ℕ) (run : Run) (e : JournalEntry) → i < length journal → e ≡ get_or journal i e → IsSoFar script journal i run → is_beyond_at script run e e.kind ≡ true → answers_beyond script journal ≡ true
-stops script journal i run e h at so b = so.beyond (ap (is_beyond_on script run) (drop_step journal i e h at) ∙ or_left (is_beyond_at script run e e.kind) (is_beyond_on script (after_entry script run e) (drop (i + 1) journal)) b)
+pub stops : (script : Script) (journal : List JournalEntry) (i : ℕ) (run : Run) (e : JournalEntry) → i < length journal → e ≡ get_or journal i e → IsSoFar script journal i run → is_beyond_at script run e ≡ true → answers_beyond script journal ≡ true
+stops script journal i run e h at so b = so.beyond (ap (is_beyond_on script run) (drop_step journal i e h at) ∙ or_left (is_beyond_at script run e) (is_beyond_on script (after_entry script run e) (drop (i + 1) journal)) b)
 
 and_true : (a b : Bool) → a ≡ true → (a && b) ≡ b
 and_true true b e = refl

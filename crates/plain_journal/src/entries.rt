@@ -1,15 +1,17 @@
 //! What one entry of a journal changes.
 
 ghost use Rattle.command_set.specs.Answers.{answer};
-ghost use Rattle.command_set.specs.Journals.{after_entry, after_kind, after_moment, command_at, corrected, cut_short, is_data, line_of, lines_cut_short, reply_before, told_more, with_reply, without_upkeep};
-ghost use Rattle.plain_journal.specs.Beyond.{is_beyond_at, is_beyond_moment};
+ghost use Rattle.command_set.specs.Journals.{after_entry, command_at, corrected, cut_short, is_data, line_of, reply_before, runs_upkeep, with_reply, without_upkeep};
+ghost use Rattle.plain_journal.specs.Beyond.{is_beyond_at, is_beyond_kind};
+ghost use Rattle.plain_journal.specs.Kinds.{after_cut, after_end, after_kind};
 ghost use Rattle.plain_program.specs.Words.{is_beyond};
 ghost use Rattle.std.specs.List.{filter};
-ghost use Rattle.std.specs.Option.{option_copied, option_map_or};
-ghost use Rattle.std.specs.Prelude.{◌≡◌, ◌<◌, ◌-◌, ◌+◌, ◌^◌, ◌==◌, ◌∷◌, ◌++◌, [], Some, if◌then◌else◌, is_some, true, false, not, ◌&&◌, IfOk, IsErrOf, length, slice_set};
+ghost use Rattle.std.specs.Option.{option_copied};
+ghost use Rattle.std.specs.Prelude.{◌≡◌, ◌<◌, ◌-◌, ◌^◌, ◌==◌, ◌∷◌, ◌++◌, [], Some, if◌then◌else◌, true, not, IfOk, IsErrOf, length, slice_set};
 
 use command_set::journal::{Line, LineList, Run, Told, ToldList};
 use command_set::state::{Plain, UpkeepList};
+use command_set::values::nth;
 use command_set::{Command, JournalEntry, Kind, Reply, Script};
 use list_facts::ListOf;
 use plain_program::{PlainFault, fail, plain_answer};
@@ -20,8 +22,8 @@ use std::mem::replace;
 pub fn command_at(script: &Script, session: u16, number: u32) -> Option<&Command>
     ensures { option_copied result ≡ command_at script.now session number }
 {
-    match script.sessions.get(usize::from(session.saturating_sub(1))) {
-        Some(commands) => commands.get(number.saturating_sub(1) as usize),
+    match nth(script.sessions.as_slice(), usize::from(session)) {
+        Some(commands) => nth(commands.as_slice(), number as usize),
         None => None,
     }
 }
@@ -30,7 +32,7 @@ pub fn command_at(script: &Script, session: u16, number: u32) -> Option<&Command
 pub fn reply_before<'a>(run: &'a Run, entry: &JournalEntry) -> Option<&'a Reply>
     ensures { option_copied result ≡ reply_before run.now entry.now }
 {
-    match run.told.get(usize::from(entry.session.saturating_sub(1))) {
+    match nth(run.told.as_slice(), usize::from(entry.session)) {
         Some(told) => {
             if told.begun == entry.number {
                 told.reply.as_ref()
@@ -156,11 +158,23 @@ fn without_upkeep(alloc: Global, store: Plain, session: u16) -> Result<Plain, Al
     Ok(after)
 }
 
+// Whether a session runs upkeep.
+fn runs_upkeep(store: &Plain, session: u16) -> bool
+    ensures { result ≡ runs_upkeep store.now session }
+{
+    let upkeep = store.upkeep.as_slice();
+    upkeep.iter().any(|running| running.session == session)
+}
+
 // The state after a command of a session has ended early.
 fn cut_short(alloc: Global, store: Plain, session: u16) -> Result<Plain, AllocError>
     ensures { IfOk result (λ after. after ≡ cut_short store session) }
 {
-    let mut after = without_upkeep(alloc, store, session)?;
+    if runs_upkeep(&store, session) {
+        let after = without_upkeep(alloc, store, session)?;
+        return Ok(after);
+    }
+    let mut after = store;
     fail(&mut after, session);
     Ok(after)
 }
@@ -178,23 +192,6 @@ pub fn is_data(command: &Command) -> bool
             | Command::VacuumToast { .. }
             | Command::Rewrite { .. }
     )
-}
-
-// Whether an entry's command is a data command.
-fn is_on_data(script: &Script, entry: &JournalEntry) -> bool
-    ensures { result ≡ option_map_or is_data (command_at script.now entry.now.session entry.now.number) false }
-{
-    match command_at(script, entry.session, entry.number) {
-        Some(command) => is_data(command),
-        None => false,
-    }
-}
-
-// Whether an entry's command has a line that changes when it is ended early.
-fn has_line(script: &Script, run: &Run, entry: &JournalEntry) -> bool
-    ensures { result ≡ (is_some (reply_before run.now entry.now) && option_map_or is_data (command_at script.now entry.now.session entry.now.number) false) }
-{
-    reply_before(run, entry).is_some() && is_on_data(script, entry)
 }
 
 // The lines with a new reply in the line of an entry's command, where it has one, else with a line more.
@@ -215,8 +212,8 @@ fn lines_with(
     Ok(all)
 }
 
-// After the moment of a command.
-fn after_moment(
+// What is told after the moment of a command.
+fn after_answer(
     alloc: Global,
     script: &Script,
     run: Run,
@@ -224,7 +221,7 @@ fn after_moment(
     command: &Command,
 ) -> Result<Run, PlainFault>
     requires { length run.plain.sessions < 2 ^ 16 }
-    ensures ok { IfOk result (λ after. after ≡ after_moment script.now run entry.now command.now) }
+    ensures ok { IfOk result (λ after. after ≡ after_kind script.now run entry.now command.now Kind.Run) }
     ensures range { IsErrOf result PlainFault.Range → is_beyond (answer script.now.schemas run.plain entry.now.session command.now).reply ≡ true }
 {
     let answered = plain_answer(alloc, &script.schemas, run.plain, entry.session, command)?;
@@ -239,9 +236,9 @@ fn after_moment(
     })
 }
 
-// After the end of upkeep.
+// What is told after the end of upkeep.
 fn after_end(alloc: Global, run: Run, entry: &JournalEntry) -> Result<Run, AllocError>
-    ensures { IfOk result (λ after. after ≡ told_more run entry.now (reply_before run entry.now) (without_upkeep run.plain entry.now.session) (run.lines ++ line_of entry.now Reply.Done ∷ [])) }
+    ensures { IfOk result (λ after. after ≡ after_end run entry.now) }
 {
     let reply = copy_before(&run, entry)?;
     let plain = without_upkeep(alloc, run.plain, entry.session)?;
@@ -251,18 +248,18 @@ fn after_end(alloc: Global, run: Run, entry: &JournalEntry) -> Result<Run, Alloc
     Ok(Run { plain, told, lines })
 }
 
-// After a command was ended early with this reply.
+// What is told after a command was ended early with this reply.
 fn after_cut(
     alloc: Global,
-    script: &Script,
     run: Run,
     entry: &JournalEntry,
+    command: &Command,
     cut: Reply,
 ) -> Result<Run, AllocError>
-    ensures { IfOk result (λ after. after ≡ told_more run entry.now (reply_before run entry.now) (cut_short run.plain entry.now.session) (lines_cut_short script.now run entry.now cut)) }
+    ensures { IfOk result (λ after. after ≡ after_cut run entry.now command.now cut) }
 {
     let reply = copy_before(&run, entry)?;
-    let has_line = has_line(script, &run, entry);
+    let has_line = reply.is_some() && is_data(command);
     let plain = cut_short(alloc, run.plain, entry.session)?;
     let lines = lines_with(alloc, has_line, run.lines, entry, cut)?;
     let mut told = run.told;
@@ -270,21 +267,33 @@ fn after_cut(
     Ok(Run { plain, told, lines })
 }
 
-// After an entry that is its command's moment.
-fn after_run(
+// What is told after an entry that names a command.
+fn after_named(
     alloc: Global,
     script: &Script,
     run: Run,
     entry: &JournalEntry,
+    command: &Command,
 ) -> Result<Run, PlainFault>
     requires { length run.plain.sessions < 2 ^ 16 }
-    ensures ok { IfOk result (λ after. after ≡ after_kind script.now run entry.now Kind.Run) }
-    ensures range { IsErrOf result PlainFault.Range → is_beyond_moment script.now run entry.now ≡ true }
+    ensures ok { IfOk result (λ after. after ≡ after_kind script.now run entry.now command.now entry.now.kind) }
+    ensures range { IsErrOf result PlainFault.Range → is_beyond_kind script.now run entry.now command.now entry.now.kind ≡ true }
 {
-    match command_at(script, entry.session, entry.number) {
-        None => Ok(run),
-        Some(command) => {
-            let after = after_moment(alloc, script, run, entry, command)?;
+    match entry.kind {
+        Kind::Run => {
+            let after = after_answer(alloc, script, run, entry, command)?;
+            Ok(after)
+        }
+        Kind::End => {
+            let after = after_end(alloc, run, entry)?;
+            Ok(after)
+        }
+        Kind::NoValueId => {
+            let after = after_cut(alloc, run, entry, command, Reply::NoValueId)?;
+            Ok(after)
+        }
+        Kind::Memory => {
+            let after = after_cut(alloc, run, entry, command, Reply::Memory)?;
             Ok(after)
         }
     }
@@ -299,23 +308,12 @@ pub fn after_entry(
 ) -> Result<Run, PlainFault>
     requires { length run.plain.sessions < 2 ^ 16 }
     ensures ok { IfOk result (λ after. after ≡ after_entry script.now run entry.now) }
-    ensures range { IsErrOf result PlainFault.Range → is_beyond_at script.now run entry.now entry.now.kind ≡ true }
+    ensures range { IsErrOf result PlainFault.Range → is_beyond_at script.now run entry.now ≡ true }
 {
-    match entry.kind {
-        Kind::Run => {
-            let after = after_run(alloc, script, run, entry)?;
-            Ok(after)
-        }
-        Kind::End => {
-            let after = after_end(alloc, run, entry)?;
-            Ok(after)
-        }
-        Kind::NoValueId => {
-            let after = after_cut(alloc, script, run, entry, Reply::NoValueId)?;
-            Ok(after)
-        }
-        Kind::Memory => {
-            let after = after_cut(alloc, script, run, entry, Reply::Memory)?;
+    match command_at(script, entry.session, entry.number) {
+        None => Ok(run),
+        Some(command) => {
+            let after = after_named(alloc, script, run, entry, command)?;
             Ok(after)
         }
     }

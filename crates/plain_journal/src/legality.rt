@@ -3,12 +3,14 @@
 ghost use Rattle.command_set.specs.Journals.{all_ended, has_ended, is_complete, is_legal, is_rewrite_command, is_run, is_started, is_under_way, may_come_first, may_come_second, may_follow, takes_no_memory, told_of, untold, writes_values};
 ghost use Rattle.command_set.specs.Replies.{is_granted};
 ghost use Rattle.plain_journal.specs.Beyond.{answers_beyond};
+ghost use Rattle.plain_journal.specs.Kinds.{may_come_of};
 ghost use Rattle.std.specs.Option.{option_map_or, unwrap_or};
 ghost use Rattle.std.specs.Prelude.{◌≡◌, ◌<◌, ◌+◌, ◌^◌, ◌==◌, ◌&&◌, ◌||◌, not, false, true, IfOk, IsErrOf, length, slice_get};
 
 use crate::entries::{after_entry, command_at, is_data};
 use crate::runs::{first_run, run_of};
 use command_set::journal::{Run, Told};
+use command_set::values::nth;
 use command_set::{Command, CommandList, JournalEntry, Kind, Reply, Script};
 use plain_program::PlainFault;
 use std::alloc::Global;
@@ -121,7 +123,7 @@ fn told_of<'a>(run: &'a Run, session: u16, nothing: &'a Told) -> &'a Told
     requires { nothing.now ≡ untold }
     ensures { result.now ≡ told_of run.now session }
 {
-    match run.told.get(usize::from(session.saturating_sub(1))) {
+    match nth(run.told.as_slice(), usize::from(session)) {
         Some(told) => told,
         None => nothing,
     }
@@ -147,14 +149,14 @@ fn may_end(told: &Told, kind: Kind, command: &Command) -> bool
 }
 
 // Whether an entry of this command may follow what is told of its session.
-fn may_follow_told(told: &Told, entry: &JournalEntry, command: &Command) -> bool
-    ensures { result ≡ ((entry.now.number == told.now.begun + 1) && (not (is_under_way told.now) && may_come_first command.now entry.now.kind)) || ((entry.now.number == told.now.begun) && (option_map_or is_run told.now.last false && option_map_or (λ reply. may_come_second command.now reply entry.now.kind) told.now.reply false)) }
+fn may_come(told: &Told, entry: &JournalEntry, command: &Command) -> bool
+    ensures { result ≡ may_come_of told.now entry.now command.now }
 {
     may_begin(told, entry, command)
         || (entry.number == told.begun && last_is_run(told) && may_end(told, entry.kind, command))
 }
 
-/// Whether an entry may follow what a journal tells.
+/// Whether an entry names a command and may follow what a journal tells.
 pub fn may_follow(script: &Script, run: &Run, entry: &JournalEntry) -> bool
     ensures { result ≡ may_follow script.now run.now entry.now }
 {
@@ -165,7 +167,7 @@ pub fn may_follow(script: &Script, run: &Run, entry: &JournalEntry) -> bool
     };
     let told = told_of(run, entry.session, &nothing);
     match command_at(script, entry.session, entry.number) {
-        Some(command) => entry.session > 0 && may_follow_told(told, entry, command),
+        Some(command) => may_come(told, entry, command),
         None => false,
     }
 }

@@ -63,6 +63,10 @@ enum Said {
     NoValueId,
     Started,
     Done,
+    Outside,
+    Memory,
+    /// Want of memory is the command's first entry.
+    Wanted,
     /// There is no line: the command's own has changed.
     Nothing,
 }
@@ -202,9 +206,10 @@ fn begun(moments: &[Moment], session: u16) -> u32 {
     begun
 }
 
-fn kind_of(step: &Step) -> Kind {
-    match step {
-        Step::Also(kind) => *kind,
+fn kind_of(step: &Step, said: &Said) -> Kind {
+    match (step, said) {
+        (Step::Also(kind), _) => *kind,
+        (_, Said::Wanted) => Kind::Memory,
         _ => Kind::Run,
     }
 }
@@ -212,11 +217,11 @@ fn kind_of(step: &Step) -> Kind {
 // The entries of the steps, in order.
 fn journal_of(alloc: Global, moments: &[Moment]) -> Result<JournalList, AllocError> {
     let mut journal = ListOf::new(alloc);
-    for (at, (session, step, _)) in moments.iter().enumerate() {
+    for (at, (session, step, said)) in moments.iter().enumerate() {
         journal.push(JournalEntry {
             session: *session,
             number: begun(&moments[..at + 1], *session),
-            kind: kind_of(step),
+            kind: kind_of(step, said),
         })?;
     }
     Ok(journal)
@@ -295,6 +300,8 @@ fn small_reply(said: Said) -> Reply {
         Said::HandleThere => Reply::HandleThere,
         Said::NoValueId => Reply::NoValueId,
         Said::Started => Reply::Started,
+        Said::Outside => Reply::Outside,
+        Said::Memory | Said::Wanted => Reply::Memory,
         _ => Reply::Done,
     }
 }
@@ -350,6 +357,8 @@ const RR: Step = Step::Begin(Level::Rr);
 const END: Step = Step::Also(Kind::End);
 
 const NO_VALUE_ID: Step = Step::Also(Kind::NoValueId);
+
+const NO_MEMORY: Step = Step::Also(Kind::Memory);
 
 const E: &[Storage] = &[Storage::External];
 
@@ -759,5 +768,217 @@ fn keys(rt: HostRuntime) -> Result<(), Broken> {
         (1, Step::Commit, Said::Okay),
     ];
     assert!(rt; prints(rt.alloc(), &[E], &moments)?);
+    Ok(())
+}
+
+// Want of memory at a command's first entry and after its moment, for reads, writes and upkeep.
+#[test]
+fn want_of_memory_at_each_place(rt: HostRuntime) -> Result<(), Broken> {
+    let moments = [
+        (1, Step::Get(1, 1), Said::Wanted),
+        (1, Step::Get(1, 1), Said::Outside),
+        (1, Step::VacuumMain, Said::Wanted),
+        (1, RC, Said::Okay),
+        (1, Step::Insert(1, 1, Value::Byte(1)), Said::Wanted),
+        (1, Step::Get(1, 1), Said::Failed),
+        (1, Step::Rollback, Said::Okay),
+        (1, RC, Said::Okay),
+        (1, Step::Insert(1, 1, Value::Count(2500, 0)), Said::Memory),
+        (1, NO_MEMORY, Said::Nothing),
+        (1, Step::Commit, Said::RolledBack),
+        (1, RC, Said::Okay),
+        (1, Step::Insert(1, 1, Value::Byte(1)), Said::Okay),
+        (1, Step::Get(1, 1), Said::Memory),
+        (2, Step::VacuumToast, Said::Started),
+        (1, NO_MEMORY, Said::Nothing),
+        (3, Step::VacuumToast, Said::Locked(2)),
+        (1, Step::Commit, Said::RolledBack),
+        (2, NO_MEMORY, Said::Memory),
+        (3, Step::VacuumToast, Said::Started),
+        (3, END, Said::Done),
+        (1, RC, Said::Okay),
+        (1, Step::Rewrite, Said::Wanted),
+        (1, Step::Get(1, 1), Said::Failed),
+        (1, Step::Rollback, Said::Okay),
+        (1, RC, Said::Okay),
+        (1, Step::Get(1, 1), Said::Absent),
+        (1, Step::Commit, Said::Okay),
+    ];
+    assert!(rt; prints(rt.alloc(), &[E], &moments)?);
+    Ok(())
+}
+
+#[test]
+fn a_rewrite_that_finds_no_id(rt: HostRuntime) -> Result<(), Broken> {
+    let moments = [
+        (1, RC, Said::Okay),
+        (
+            1,
+            Step::InsertTwo(1, Value::Count(1500, 0), Value::Count(1600, 0)),
+            Said::Okay,
+        ),
+        (1, Step::Commit, Said::Okay),
+        (1, Step::Rewrite, Said::Started),
+        (2, Step::Rewrite, Said::Locked(1)),
+        (1, NO_VALUE_ID, Said::NoValueId),
+        (2, Step::Rewrite, Said::Started),
+        (2, END, Said::Done),
+        (1, RC, Said::Okay),
+        (
+            1,
+            Step::Get(1, 1),
+            Said::RowOfTwo(Value::Count(1500, 0), Value::Count(1600, 0)),
+        ),
+        (1, Step::Commit, Said::Okay),
+    ];
+    assert!(rt; prints(rt.alloc(), &[EE], &moments)?);
+    Ok(())
+}
+
+const RUN: Kind = Kind::Run;
+
+/// An entry: a session, its command's number and the kind.
+type Entry = (u16, u32, Kind);
+
+// The script of the tables below: session 1 writes, reads and runs upkeep, session 2 reads in no transaction.
+const TO_JUDGE: [Moment; 8] = [
+    (1, RC, Said::Okay),
+    (1, Step::Insert(1, 1, Value::Byte(1)), Said::Okay),
+    (1, Step::Get(1, 1), Said::Row(Value::Byte(1))),
+    (1, Step::Commit, Said::Okay),
+    (1, Step::VacuumToast, Said::Started),
+    (1, Step::Rewrite, Said::Started),
+    (2, Step::Get(1, 1), Said::Outside),
+    (2, RC, Said::Okay),
+];
+
+fn entries_of(alloc: Global, entries: &[Entry]) -> Result<JournalList, AllocError> {
+    let mut journal = ListOf::new(alloc);
+    for (session, number, kind) in entries {
+        journal.push(JournalEntry {
+            session: *session,
+            number: *number,
+            kind: *kind,
+        })?;
+    }
+    Ok(journal)
+}
+
+// Whether a journal of that script is legal, and whether it is complete.
+fn judged(alloc: Global, entries: &[Entry]) -> Result<(bool, bool), Broken> {
+    let script = script_of(alloc, &[E], &TO_JUDGE)?;
+    if script.sessions.len() > 64 {
+        return Err(Broken);
+    }
+    let journal = entries_of(alloc, entries)?;
+    let legal = is_legal(alloc, &script, journal.as_slice())?;
+    let complete = is_complete(alloc, &script, journal.as_slice())?;
+    Ok((legal, complete))
+}
+
+// Each of these journals is legal up to its last entry, which may not come.
+const ILLEGAL: [&[Entry]; 18] = [
+    &[(0, 1, RUN)],
+    &[(3, 1, RUN)],
+    &[(5, 1, RUN)],
+    &[(1, 0, RUN)],
+    &[(1, 2, RUN)],
+    &[(1, 1, Kind::Memory)],
+    &[(1, 1, RUN), (1, 1, RUN)],
+    &[(1, 1, RUN), (1, 1, Kind::Memory)],
+    &[(1, 1, RUN), (1, 2, Kind::End)],
+    &[(1, 1, RUN), (1, 2, Kind::NoValueId)],
+    &[(1, 1, RUN), (1, 2, RUN), (1, 2, Kind::End)],
+    &[(1, 1, RUN), (1, 2, RUN), (1, 3, RUN), (1, 2, Kind::Memory)],
+    &[
+        (1, 1, RUN),
+        (1, 2, RUN),
+        (1, 3, RUN),
+        (1, 3, Kind::NoValueId),
+    ],
+    &[(1, 1, RUN), (1, 2, Kind::Memory), (1, 2, Kind::Memory)],
+    &[(2, 1, RUN), (2, 1, Kind::Memory)],
+    &[(2, 1, Kind::Memory), (2, 1, RUN)],
+    &[(2, 1, RUN), (2, 2, RUN), (2, 3, RUN)],
+    &[(2, 2, RUN)],
+];
+
+// What may not come after the first five commands of session 1, the last of which began a vacuum.
+const ILLEGAL_IN_UPKEEP: [&[Entry]; 4] = [
+    &[(1, 6, RUN)],
+    &[(1, 5, RUN)],
+    &[(1, 5, Kind::NoValueId)],
+    &[(1, 5, Kind::End), (1, 5, Kind::End)],
+];
+
+const UP_TO_VACUUM: [Entry; 5] = [
+    (1, 1, RUN),
+    (1, 2, RUN),
+    (1, 3, RUN),
+    (1, 4, RUN),
+    (1, 5, RUN),
+];
+
+fn appended(alloc: Global, front: &[Entry], more: &[Entry]) -> Result<ListOf<Entry>, AllocError> {
+    let mut all = ListOf::from_slice(alloc, front)?;
+    all.extend_from_slice(more)?;
+    Ok(all)
+}
+
+// Whether a journal is legal up to its last entry, and not with it.
+fn last_is_refused(alloc: Global, entries: &[Entry]) -> Result<bool, Broken> {
+    let (whole, _) = judged(alloc, entries)?;
+    let (front, _) = judged(alloc, &entries[..entries.len().saturating_sub(1)])?;
+    Ok(front && !whole)
+}
+
+#[test]
+fn illegal_journals(rt: HostRuntime) -> Result<(), Broken> {
+    for entries in ILLEGAL {
+        assert!(rt; last_is_refused(rt.alloc(), entries)?);
+    }
+    for more in ILLEGAL_IN_UPKEEP {
+        let entries = appended(rt.alloc(), &UP_TO_VACUUM, more)?;
+        assert!(rt; last_is_refused(rt.alloc(), entries.as_slice())?);
+    }
+    Ok(())
+}
+
+// What comes after these five commands, and whether the journal is then complete; it is legal each time.
+const COMPLETE: [(&[Entry], bool); 6] = [
+    (&[], false),
+    (&[(1, 5, Kind::End), (1, 6, RUN), (1, 6, Kind::End)], false),
+    (
+        &[(1, 5, Kind::End), (1, 6, RUN), (2, 1, RUN), (2, 2, RUN)],
+        false,
+    ),
+    (&[(2, 1, RUN), (2, 2, RUN), (1, 5, Kind::End)], false),
+    (
+        &[
+            (1, 5, Kind::End),
+            (1, 6, RUN),
+            (2, 1, RUN),
+            (1, 6, Kind::NoValueId),
+            (2, 2, RUN),
+        ],
+        true,
+    ),
+    (
+        &[
+            (2, 1, Kind::Memory),
+            (1, 5, Kind::Memory),
+            (1, 6, Kind::Memory),
+            (2, 2, RUN),
+        ],
+        true,
+    ),
+];
+
+#[test]
+fn incomplete_journals(rt: HostRuntime) -> Result<(), Broken> {
+    for (more, complete) in COMPLETE {
+        let entries = appended(rt.alloc(), &UP_TO_VACUUM, more)?;
+        assert_eq!(rt; judged(rt.alloc(), entries.as_slice())?, (true, complete));
+    }
     Ok(())
 }

@@ -8,10 +8,10 @@ use Rattle.script_text.specs.Lines.{content, lines, words}
 use Rattle.script_text.specs.Reading.{◌>>=◌, Gives}
 use Rattle.script_text.specs.Values.{value_in, values_in}
 use Rattle.script_text.specs.Items.{item_in, items_in}
-use Rattle.script_text.specs.Scripts.{Tells, after_lines, next_number, with_words}
-use Rattle.script_text.specs.Drafts.{Leaves}
+use Rattle.script_text.specs.Scripts.{Read, Tells, after_lines, next_number, with_words}
+use Rattle.script_text.specs.Drafts.{Reads}
 use Rattle.script_text.specs.Faults.{fault_at}
-use Rattle.script_text.specs.declared.draft.Draft.{Draft}
+use Rattle.script_text.specs.declared.reader.Reader.{Reader}
 use Rattle.script_text.specs.declared.fault.LineFault.{LineFault}
 use Rattle.script_text.specs.declared.fault.ScriptFault.{ScriptFault}
 use Rattle.script_text.specs.declared.fault.Refusal.{Refusal}
@@ -63,16 +63,16 @@ unfolding items_in
 items_refused sessions fault front before rest w whole cut is h = sym (rw (cut, is) at h)
 
 -- one line more
-pub lines_on : (n m : ℕ) (script next : Script) (before rest : List (List ℕ)) (line text : List ℕ) (whole : Result Script ScriptFault) → before ≡ line ∷ rest → text ≡ content line → with_words script (words text) ≡ Ok next → m ≡ next_number n → after_lines n script before ≡ whole → after_lines m next rest ≡ whole
+pub lines_on : (n m : ℕ) (read next : Read) (before rest : List (List ℕ)) (line text : List ℕ) (whole : Result Script ScriptFault) → before ≡ line ∷ rest → text ≡ content line → with_words read (words text) ≡ Ok next → m ≡ next_number n → after_lines n read before ≡ whole → after_lines m next rest ≡ whole
 unfolding after_lines
-lines_on n m script next before rest line text whole cut says is number h =
+lines_on n m read next before rest line text whole cut says is number h =
     rw number (rw (cut, ← says, is) at h)
 
 -- a line that is refused
-pub lines_refused : (r : Refusal) (n : ℕ) (draft : Draft) (script : Script) (before rest : List (List ℕ)) (line text : List ℕ) (whole : Result Script ScriptFault) → before ≡ line ∷ rest → text ≡ content line → Leaves {A = Unit {0}} draft (Err r) (with_words script (words text)) → after_lines n script before ≡ whole → Tells (Err (fault_at n r)) whole
+pub lines_refused : (r : Refusal) (n : ℕ) (reader : Reader) (read : Read) (before rest : List (List ℕ)) (line text : List ℕ) (whole : Result Script ScriptFault) → before ≡ line ∷ rest → text ≡ content line → Reads {A = Unit {0}} reader (Err r) (with_words read (words text)) → after_lines n read before ≡ whole → Tells (Err (fault_at n r)) whole
 unfolding after_lines
-lines_refused Memory n draft script before rest line text whole cut says is h = tt
-lines_refused (Fault fault) n draft script before rest line text whole cut says is h = sym (rw (cut, ← says, is) at h)
+lines_refused Memory n reader read before rest line text whole cut says is h = tt
+lines_refused (Fault fault) n reader read before rest line text whole cut says is h = sym (rw (cut, ← says, is) at h)
 
 -- no bytes are left
 pub no_bytes : (bytes : List ℕ) (none : Bool) → none ≡ (length bytes == 0) → none ≡ true → length bytes ≡ 0
@@ -84,6 +84,6 @@ no_lines [] h = refl
 no_lines (b ∷ bytes) h = absurd (omega (arith, h))
 
 -- no more lines
-pub lines_end : (n : ℕ) (script : Script) (bytes : List ℕ) (whole : Result Script ScriptFault) → length bytes ≡ 0 → after_lines n script (lines bytes) ≡ whole → whole ≡ Ok script
+pub lines_end : (n : ℕ) (read : Read) (bytes : List ℕ) (whole : Result Script ScriptFault) → length bytes ≡ 0 → after_lines n read (lines bytes) ≡ whole → whole ≡ Ok read.script
 unfolding after_lines
-lines_end n script bytes whole none h = sym (rw (no_lines bytes none) at h)
+lines_end n read bytes whole none h = sym (rw (no_lines bytes none) at h)

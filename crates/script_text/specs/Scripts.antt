@@ -1,43 +1,82 @@
 -- Scripts: what their lines make, line by line, or the first bad line and why it is bad.
-use Rattle.std.specs.Prelude.{◌≡◌, ℕ, ◌+◌, min, ◌&&◌, not, nat_le, Bool, true, false, List, [], ◌∷◌, ◌++◌, length, sum_by, Option, Some, None, Result, Ok, Err, if◌then◌else◌}
+use Rattle.std.specs.Prelude.{◌≡◌, ℕ, ◌+◌, min, ◌&&◌, ◌||◌, not, nat_le, Bool, true, false, List, [], ◌∷◌, ◌++◌, length, sum_by, Option, Some, None, Result, Ok, Err, if◌then◌else◌}
 use Rattle.command_set.specs.declared.Command.{Command}
 use Rattle.command_set.specs.declared.Command.TheVariants as commands
 use Rattle.command_set.specs.declared.Script.{Script}
+use Rattle.command_set.specs.declared.Set.{Set}
 use Rattle.script_text.specs.Lines.{lines, content, words}
-use Rattle.script_text.specs.Words.{none}
+use Rattle.script_text.specs.Words.{counted}
 use Rattle.script_text.specs.Items.{passage_turns}
-use Rattle.script_text.specs.Forms.{form_in, table_line, begin_line, bare_line, get_line, insert_line, go_line, loop_line}
+use Rattle.script_text.specs.Forms.{form_in, ids_line, table_line, begin_line, bare_line, get_line, insert_line, go_line, loop_line}
 use Rattle.script_text.specs.Reading.{◌>>=◌}
 use Rattle.script_text.specs.declared.fault.LineFault.{LineFault}
 use Rattle.script_text.specs.declared.fault.LineFault.TheVariants.{UnknownWord, OutOfPlace, TooMany}
 use Rattle.script_text.specs.declared.fault.ScriptFault.{ScriptFault}
 use Rattle.script_text.specs.declared.fault.ScriptFault.TheVariants.{BadScript, Memory}
 use Rattle.script_text.specs.declared.forms.Form.{Form}
-use Rattle.script_text.specs.declared.forms.Form.TheVariants.{Table, Session, Begin, Commit, Rollback, Get, Insert, Go, Loop}
+use Rattle.script_text.specs.declared.forms.Form.TheVariants.{Ids, Table, Session, Begin, Commit, Rollback, Get, Insert, Go, Loop}
+use Rattle.script_text.specs.declared.forms.Part.{Part}
+use Rattle.script_text.specs.declared.forms.Part.TheVariants.{Range, Tables, Sessions, Schedule}
 use Rattle.script_text.specs.declared.forms.Line.{Line}
 use Rattle.script_text.specs.declared.forms.Line.TheVariants as line
+
+-- what was read so far: its script, the part of the last line, and whether there was an `ids` line
+pub record Read : Type 0 where
+  pub script : Script
+  pub part : Part
+  pub has_ids : Bool
 
 -- the script of no lines
 abbrev pub empty_script : Script
 empty_script = record { low = 16384; high = 4294967295; schemas = []; sessions = []; schedule = [] }
+
+-- before the first line
+abbrev pub nothing_read : Read
+nothing_read = record { script = empty_script; part = Range; has_ids = false }
 
 -- whether a list has no items
 abbrev pub is_none_of : {A : Type 0} → List A → Bool
 is_none_of [] = true
 is_none_of (x ∷ xs) = false
 
--- whether a line of this form may stand next: tables come before sessions, sessions with their commands before the schedule, and a command needs a session
-abbrev pub is_placed : Script → Form → Bool
-is_placed script Table = is_none_of script.sessions && is_none_of script.schedule
-is_placed script Session = is_none_of script.schedule
-is_placed script Go = true
-is_placed script Loop = true
-is_placed script command = is_none_of script.schedule && not (is_none_of script.sessions)
+-- the part that a line of this form belongs to
+abbrev pub part_of : Form → Part
+part_of Ids = Range
+part_of Table = Tables
+part_of Session = Sessions
+part_of Go = Schedule
+part_of Loop = Schedule
+part_of Begin = Sessions
+part_of Commit = Sessions
+part_of Rollback = Sessions
+part_of Get = Sessions
+part_of Insert = Sessions
+
+-- the place of a part in a script, from 0
+abbrev pub place_of : Part → ℕ
+place_of Range = 0
+place_of Tables = 1
+place_of Sessions = 2
+place_of Schedule = 3
+
+-- whether there may be a line of this form: a second `ids` line may not, and a command needs a session
+abbrev pub is_free : Read → Form → Bool
+is_free read Ids = not read.has_ids
+is_free read Table = true
+is_free read Session = true
+is_free read Go = true
+is_free read Loop = true
+is_free read command = not (is_none_of read.script.sessions)
+
+-- whether a line of this form may stand next: there may be one, and no line of a later part has stood before
+abbrev pub is_placed : Read → Form → Bool
+is_placed read form = nat_le (place_of read.part) (place_of (part_of form)) && is_free read form
 
 -- what a line of this form says, by the words after its first
 unfoldable pub line_in : Script → Form → List (List ℕ) → Result Line LineFault
+line_in script Ids words = ids_line words >>= λ range. Ok (line.Ids range.0 range.1)
 line_in script Table words = table_line words >>= λ schema. Ok (line.Table schema)
-line_in script Session words = none words >>= λ _. Ok line.Session
+line_in script Session words = counted 0 words >>= λ _. Ok line.Session
 line_in script Begin words = begin_line words >>= λ command. Ok (line.Command command)
 line_in script Commit words = bare_line commands.Commit words >>= λ command. Ok (line.Command command)
 line_in script Rollback words = bare_line commands.Rollback words >>= λ command. Ok (line.Command command)
@@ -54,6 +93,7 @@ with_command command (session ∷ next ∷ sessions) = session ∷ with_command 
 
 -- the script with one more line
 abbrev pub with_line : Script → Line → Script
+with_line script (line.Ids low high) = record script { low = low; high = high }
 with_line script (line.Table schema) = record script { schemas = script.schemas ++ schema ∷ [] }
 with_line script line.Session = record script { sessions = script.sessions ++ [] ∷ [] }
 with_line script (line.Command command) = record script { sessions = with_command command script.sessions }
@@ -64,10 +104,27 @@ abbrev pub value_bytes : Option (List ℕ) → ℕ
 value_bytes None = 0
 value_bytes (Some bytes) = length bytes
 
+-- how many bytes the value has that an update sets
+abbrev pub set_bytes : Set → ℕ
+set_bytes set = value_bytes set.value
+
 -- how many bytes the values of a command have
 abbrev pub command_bytes : Command → ℕ
 command_bytes (commands.Insert table key row) = sum_by value_bytes row
-command_bytes command = 0
+command_bytes (commands.Update table key sets) = sum_by set_bytes sets
+command_bytes (commands.Rekey table key to sets) = sum_by set_bytes sets
+command_bytes (commands.Begin level) = 0
+command_bytes commands.Commit = 0
+command_bytes commands.Rollback = 0
+command_bytes (commands.Get table key) = 0
+command_bytes (commands.Part table key column offset len) = 0
+command_bytes (commands.Open handle table key column) = 0
+command_bytes (commands.Fetch handle offset len) = 0
+command_bytes (commands.Close handle) = 0
+command_bytes (commands.Delete table key) = 0
+command_bytes (commands.VacuumMain table) = 0
+command_bytes (commands.VacuumToast table) = 0
+command_bytes (commands.Rewrite table) = 0
 
 -- how many commands a script has
 abbrev pub command_count : Script → ℕ
@@ -91,38 +148,49 @@ is_within script =
 abbrev pub limited : Script → Result Script LineFault
 limited script = if is_within script then Ok script else Err TooMany
 
--- the script with a line of this form, or the first cause against it: its place, then its words, then the limits
-abbrev pub with_form : Script → Form → List (List ℕ) → Result Script LineFault
-with_form script form words =
-    if is_placed script form then (line_in script form words >>= λ line. limited (with_line script line)) else Err OutOfPlace
+-- whether a line of this form is an `ids` line
+abbrev pub is_ids : Form → Bool
+is_ids Ids = true
+is_ids form = false
+
+-- what was read after a line of this form, which made this script
+abbrev pub read_by : Read → Form → Script → Read
+read_by read form script = record { script = script; part = part_of form; has_ids = read.has_ids || is_ids form }
+
+-- what was read with a line of this form, or the first cause against it: its place, then its words, then the limits
+abbrev pub with_form : Read → Form → List (List ℕ) → Result Read LineFault
+with_form read form words =
+    if is_placed read form
+    then (line_in read.script form words >>= λ line. limited (with_line read.script line) >>= λ script. Ok (read_by read form script))
+    else Err OutOfPlace
 
 -- the same, where there may be no such form
-abbrev pub with_known : Script → Option Form → List (List ℕ) → Result Script LineFault
-with_known script None words = Err UnknownWord
-with_known script (Some form) words = with_form script form words
+abbrev pub with_known : Read → Option Form → List (List ℕ) → Result Read LineFault
+with_known read None words = Err UnknownWord
+with_known read (Some form) words = with_form read form words
 
--- the script with a line of these words; one without words is skipped
-unfoldable pub with_words : Script → List (List ℕ) → Result Script LineFault
-with_words script [] = Ok script
-with_words script (first ∷ words) = with_known script (form_in first) words
+-- what was read with a line of these words; one without words is skipped
+unfoldable pub with_words : Read → List (List ℕ) → Result Read LineFault
+with_words read [] = Ok read
+with_words read (first ∷ words) = with_known read (form_in first) words
 
 -- the number of the next line; 4,294,967,295 stands for all lines from there on
 abbrev pub next_number : ℕ → ℕ
 next_number n = min (n + 1) 4294967295
 
 -- what goes on from a line with this number: its fault, or the lines after it
-abbrev pub goes_on : ℕ → Result Script LineFault → (Script → Result Script ScriptFault) → Result Script ScriptFault
-goes_on n (Ok script) more = more script
+abbrev pub goes_on : ℕ → Result Read LineFault → (Read → Result Script ScriptFault) → Result Script ScriptFault
+goes_on n (Ok read) more = more read
 goes_on n (Err cause) more = Err (BadScript n cause)
 
 -- the script after these lines, the first of which has this number, or the first bad line and its cause
-unfoldable pub after_lines : ℕ → Script → List (List ℕ) → Result Script ScriptFault
-after_lines n script [] = Ok script
-after_lines n script (line ∷ lines) = goes_on n (with_words script (words (content line))) (λ next. after_lines (next_number n) next lines)
+unfoldable pub after_lines : ℕ → Read → List (List ℕ) → Result Script ScriptFault
+after_lines n read [] = Ok read.script
+after_lines n read (line ∷ lines) = goes_on n (with_words read (words (content line))) (λ next. after_lines (next_number n) next lines)
 
 -- the script that the bytes spell, or the first bad line and its cause
 unfoldable pub script_in : List ℕ → Result Script ScriptFault
-script_in bytes = after_lines 1 empty_script (lines bytes)
+script_in bytes = after_lines 1 nothing_read (lines bytes)
 
 -- what was parsed is what the bytes spell, script or fault; want of memory says nothing
 abbrev pub Tells : Result Script ScriptFault → Result Script ScriptFault → Type 0

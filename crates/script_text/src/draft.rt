@@ -4,14 +4,13 @@ ghost use Rattle.script_text.specs.Drafts.{Counts, HasRoom, Leaves, script_of};
 ghost use Rattle.script_text.specs.Items.{passage_turns, turns_of};
 ghost use Rattle.script_text.specs.Lines.{words};
 ghost use Rattle.script_text.specs.Reading.{Gives};
-ghost use Rattle.script_text.specs.Scripts.{command_bytes, empty_script, is_placed, limited, line_in, value_bytes, with_command, with_form, with_line, with_words};
+ghost use Rattle.script_text.specs.Scripts.{command_bytes, empty_script, limited, line_in, set_bytes as bytes_set, value_bytes, with_command, with_line};
 
 use crate::fault::{LineFault, Refusal};
-use crate::forms::{self, Form, Line};
-use crate::lines::next_word;
+use crate::forms::{self, Form, HIGHEST_ID, LOWEST_ID, Line};
 use crate::words::no_words;
 use command_set::{
-    Bytes, Command, CommandList, Item, Passage, PassageList, SchemaList, Script, SessionList,
+    Bytes, Command, CommandList, Item, Passage, PassageList, SchemaList, Script, SessionList, Set,
 };
 use std::alloc::{AllocError, Global};
 use tuple_layout::Schema;
@@ -26,14 +25,11 @@ const MOST_BYTES: usize = 67_108_864;
 
 const MOST_TURNS: u64 = 10_000_000;
 
-// The least value id, and the greatest.
-const LOW: u32 = 16_384;
-
-const HIGH: u32 = 4_294_967_295;
-
 // The parts of a script, and how many commands, bytes of values and turns are in them.
 #[derive(Debug, Drop)]
 pub struct Draft {
+    pub low: u32,
+    pub high: u32,
     pub schemas: SchemaList,
     pub sessions: Vec<CommandList>,
     pub schedule: PassageList,
@@ -49,6 +45,8 @@ impl Draft {
         ensures counts { Counts result }
     {
         Draft {
+            low: LOWEST_ID,
+            high: HIGHEST_ID,
             schemas: SchemaList::new(alloc),
             sessions: Vec::new(alloc),
             schedule: PassageList::new(alloc),
@@ -63,64 +61,27 @@ impl Draft {
         ensures { result ≡ script_of self }
     {
         Script {
-            low: LOW,
-            high: HIGH,
+            low: self.low,
+            high: self.high,
             schemas: self.schemas,
             sessions: SessionList::from_vec(self.sessions),
             schedule: self.schedule,
         }
     }
 
-    // Adds a line of these words, where there are words. After an error the draft is of no more use.
-    #[tactic(auto, unfolding(crate::specs::Scripts::with_words))]
-    pub fn add_words(&mut self, alloc: Global, text: &[u8]) -> Result<(), Refusal>
-        requires { Counts self.old }
-        ensures { Leaves self.new result (with_words (script_of self.old) (words text.now)) }
-    {
-        let Some((word, rest)) = next_word(text) else {
-            return Ok(());
-        };
-        match forms::form_of(word) {
-            Some(form) => self.add_form(alloc, form, rest),
-            None => Err(Refusal::Fault(LineFault::UnknownWord)),
-        }
-    }
-
-    // Adds a line of this form, which says these words.
-    fn add_form(&mut self, alloc: Global, form: Form, text: &[u8]) -> Result<(), Refusal>
-        requires { Counts self.old }
-        ensures { Leaves self.new result (with_form (script_of self.old) form (words text.now)) }
-    {
-        if !self.may_stand(form) {
-            return Err(Refusal::Fault(LineFault::OutOfPlace));
-        }
-        let line = self.line(alloc, form, text)?;
-        self.add(line)
-    }
-
-    // Whether a line of this form may stand next.
-    fn may_stand(&self, form: Form) -> bool
-        ensures { result ≡ is_placed (script_of self.now) form }
-    {
-        match form {
-            Form::Table => self.sessions.is_empty() && self.schedule.is_empty(),
-            Form::Session => self.schedule.is_empty(),
-            Form::Go | Form::Loop => true,
-            Form::Begin | Form::Commit | Form::Rollback | Form::Get | Form::Insert => {
-                self.schedule.is_empty() && !self.sessions.is_empty()
-            }
-        }
-    }
-
     // What a line of this form says.
     #[tactic(auto, unfolding(crate::specs::Scripts::line_in))]
-    fn line(&self, alloc: Global, form: Form, text: &[u8]) -> Result<Line, Refusal>
+    pub fn line(&self, alloc: Global, form: Form, text: &[u8]) -> Result<Line, Refusal>
         requires { Counts self.now }
         ensures { Gives result (line_in (script_of self.now) form (words text.now)) }
     {
         let schemas = self.schemas.as_slice();
         let sessions = self.sessions.len();
         match form {
+            Form::Ids => {
+                let (low, high) = forms::ids(text)?;
+                Ok(Line::Ids { low, high })
+            }
             Form::Table => Ok(Line::Table(forms::table_of(alloc, text)?)),
             Form::Session => {
                 no_words(text)?;
@@ -137,12 +98,17 @@ impl Draft {
     }
 
     // Adds what a line says.
-    fn add(&mut self, line: Line) -> Result<(), Refusal>
+    pub fn add(&mut self, line: Line) -> Result<(), Refusal>
         requires counts { Counts self.old }
         requires placed { HasRoom (script_of self.old) line }
         ensures { Leaves self.new result (limited (with_line (script_of self.old) line)) }
     {
         match line {
+            Line::Ids { low, high } => {
+                self.low = low;
+                self.high = high;
+                Ok(())
+            }
             Line::Table(schema) => self.add_table(schema),
             Line::Session => self.add_session(),
             Line::Command(command) => self.add_command(command),
@@ -219,7 +185,21 @@ fn bytes_of(command: &Command, most: usize) -> Option<usize>
 {
     match command {
         Command::Insert { row, .. } => row_bytes(row.as_slice(), most),
-        _ => Some(0),
+        Command::Update { sets, .. } | Command::Rekey { sets, .. } => {
+            set_bytes(sets.as_slice(), most)
+        }
+        Command::Begin { .. }
+        | Command::Commit
+        | Command::Rollback
+        | Command::Get { .. }
+        | Command::Part { .. }
+        | Command::Open { .. }
+        | Command::Fetch { .. }
+        | Command::Close { .. }
+        | Command::Delete { .. }
+        | Command::VacuumMain { .. }
+        | Command::VacuumToast { .. }
+        | Command::Rewrite { .. } => Some(0),
     }
 }
 
@@ -231,6 +211,18 @@ fn row_bytes(row: &[Option<Bytes>], most: usize) -> Option<usize>
     let mut room = most;
     for value in row {
         room = room.checked_sub(value_len(value))?;
+    }
+    Some(most - room)
+}
+
+// How many bytes the values have that an update sets, if they are at most `most`.
+fn set_bytes(sets: &[Set], most: usize) -> Option<usize>
+    requires { most ≤ 67108864 }
+    ensures { result ≡ (if nat_le (sum_by bytes_set sets.now) most then Some (sum_by bytes_set sets.now) else None) }
+{
+    let mut room = most;
+    for set in sets {
+        room = room.checked_sub(value_len(&set.value))?;
     }
     Some(most - room)
 }

@@ -7,14 +7,17 @@ ghost use Rattle.script_text.specs.declared.fault.ScriptFault.TheVariants as scr
 use std::alloc::{AllocError, AllocFailed};
 use thiserror::Error;
 
-/// Why a line is bad. Where several causes apply, the first of them that stands here is told, but that a
-/// bad word is told before those to its right.
+/// Why a line is bad. Where several causes apply, the first of them that stands here is told, with two
+/// exceptions: of bad words the leftmost is told, whatever its cause, and the number of words of an `insert` is
+/// judged after its table, so that a bad table is told before a wrong number. An `insert` with no further word
+/// has a wrong number.
 #[derive(Clone, Copy, Debug, PartialEq, Eq, Error)]
 pub enum LineFault {
     /// The first word begins no line.
     #[error("no line begins with this word")]
     UnknownWord,
-    /// A line of a later part has stood before, or the command stands before the first session.
+    /// A line of a later part has stood before, this is a second `ids` line, or the command
+    /// stands before the first session.
     #[error("the line is out of place")]
     OutOfPlace,
     /// There are too few words, or too many.

@@ -1,21 +1,52 @@
 // The forms of lines.
 ghost use Rattle.std.specs.Prelude.{◌≡◌, ◌≤◌, length};
-ghost use Rattle.script_text.specs.Forms.{bare_line, begin_line, form_in, get_line, go_line, insert_line, loop_line, table_line};
+ghost use Rattle.script_text.specs.Forms.{bare_line, begin_line, form_in, get_line, go_line, ids_line, insert_line, loop_line, table_line};
 ghost use Rattle.script_text.specs.Lines.{words};
 ghost use Rattle.script_text.specs.Reading.{Gives};
+ghost use Rattle.script_text.specs.Scripts.{part_of, place_of};
 
 use crate::fault::{LineFault, Refusal};
 use crate::items::items;
 use crate::numbers::{key, number};
 use crate::values::values;
-use crate::words::{columns, first_word, first_word_of, no_words, one_word, table, two_words};
+use crate::words::{columns, first_word, first_word_of, no_words, table, words_of};
 use command_set::{Command, Level, Passage, Row};
 use std::alloc::Global;
 use tuple_layout::{Schema, SchemaFault, Storage};
 
+// The least value id, and the greatest: the range of a script without an `ids` line.
+pub const LOWEST_ID: u32 = 16_384;
+
+pub const HIGHEST_ID: u32 = 4_294_967_295;
+
+// The parts of a script, in their order.
+#[derive(Clone, Copy, Debug, PartialEq, Eq)]
+pub enum Part {
+    // The range of value ids.
+    Range,
+    Tables,
+    Sessions,
+    Schedule,
+}
+
+impl Part {
+    // The place of the part in a script, from 0.
+    pub fn place(self) -> u8
+        ensures { result ≡ place_of self }
+    {
+        match self {
+            Part::Range => 0,
+            Part::Tables => 1,
+            Part::Sessions => 2,
+            Part::Schedule => 3,
+        }
+    }
+}
+
 // The forms of lines, by their first words.
 #[derive(Clone, Copy, Debug, PartialEq, Eq)]
 pub enum Form {
+    Ids,
     Table,
     Session,
     Begin,
@@ -27,9 +58,30 @@ pub enum Form {
     Loop,
 }
 
+impl Form {
+    // The part that a line of this form belongs to.
+    pub fn part(self) -> Part
+        ensures { result ≡ part_of self }
+    {
+        match self {
+            Form::Ids => Part::Range,
+            Form::Table => Part::Tables,
+            Form::Session
+            | Form::Begin
+            | Form::Commit
+            | Form::Rollback
+            | Form::Get
+            | Form::Insert => Part::Sessions,
+            Form::Go | Form::Loop => Part::Schedule,
+        }
+    }
+}
+
 // What a line says.
 #[derive(Debug, Drop)]
 pub enum Line {
+    // The range of value ids.
+    Ids { low: u32, high: u32 },
     // The next table.
     Table(Schema),
     // The next session.
@@ -45,7 +97,9 @@ pub enum Line {
 pub fn form_of(word: &[u8]) -> Option<Form>
     ensures { result ≡ form_in word.now }
 {
-    if word == b"table".as_slice() {
+    if word == b"ids".as_slice() {
+        Some(Form::Ids)
+    } else if word == b"table".as_slice() {
         Some(Form::Table)
     } else if word == b"session".as_slice() {
         Some(Form::Session)
@@ -68,11 +122,25 @@ pub fn form_of(word: &[u8]) -> Option<Form>
     }
 }
 
+#[tactic(auto, unfolding(crate::specs::Forms::ids_line))]
+pub fn ids(text: &[u8]) -> Result<(u32, u32), LineFault>
+    ensures { result ≡ ids_line (words text.now) }
+{
+    let found = words_of(text, 2)?;
+    let Some(low) = number(found.at(0), u64::from(LOWEST_ID), u64::from(HIGHEST_ID)) else {
+        return Err(LineFault::BadNumber);
+    };
+    let Some(high) = number(found.at(1), low, u64::from(HIGHEST_ID)) else {
+        return Err(LineFault::BadNumber);
+    };
+    Ok((low as u32, high as u32))
+}
+
 #[tactic(auto, unfolding(crate::specs::Forms::table_line))]
 pub fn table_of(alloc: Global, text: &[u8]) -> Result<Schema, Refusal>
     ensures { Gives result (table_line (words text.now)) }
 {
-    let word = one_word(text)?;
+    let word = words_of(text, 1)?.at(0);
     if word != b"e".as_slice() {
         return Err(Refusal::Fault(LineFault::BadName));
     }
@@ -86,7 +154,7 @@ pub fn table_of(alloc: Global, text: &[u8]) -> Result<Schema, Refusal>
 pub fn begin(text: &[u8]) -> Result<Command, LineFault>
     ensures { result ≡ begin_line (words text.now) }
 {
-    let word = one_word(text)?;
+    let word = words_of(text, 1)?.at(0);
     if word == b"rc".as_slice() {
         Ok(Command::Begin { level: Level::Rc })
     } else {
@@ -132,9 +200,9 @@ pub fn get(schemas: &[Schema], text: &[u8]) -> Result<Command, LineFault>
     requires { length schemas.now ≤ 16 }
     ensures { result ≡ get_line schemas.now (words text.now) }
 {
-    let (first, second) = two_words(text)?;
-    let table = table(schemas, first)?;
-    match key(second) {
+    let found = words_of(text, 2)?;
+    let table = table(schemas, found.at(0))?;
+    match key(found.at(1)) {
         Some(key) => Ok(get_command(table, &key)),
         None => Err(LineFault::BadNumber),
     }

@@ -9,15 +9,16 @@ mod forms;
 mod items;
 mod lines;
 mod numbers;
+mod reader;
 #[cfg(test)]
 mod tests;
 mod values;
 mod words;
 
 pub use command_set::Script;
-use draft::Draft;
 pub use fault::{LineFault, ScriptFault};
 use lines::{content_of, cut_line};
+use reader::Reader;
 use std::alloc::Global;
 
 /// The script that the bytes spell.
@@ -26,17 +27,17 @@ use std::alloc::Global;
 pub fn parse_script(alloc: Global, bytes: &[u8]) -> Result<Script, ScriptFault>
     ensures { Tells result (script_in bytes.now) }
 {
-    let mut draft = Draft::new(alloc);
+    let mut reader = Reader::new(alloc);
     let mut line = 1u32;
     let mut rest = bytes;
     'lines: while !rest.is_empty() {
         let (text, others) = cut_line(rest);
-        match draft.add_words(alloc, content_of(text)) {
+        match reader.add_words(alloc, content_of(text)) {
             Ok(()) => {}
             Err(refusal) => return Err(refusal.at_line(line)),
         }
         line = line.saturating_add(1);
         rest = others;
     }
-    Ok(draft.into_script())
+    Ok(reader.into_script())
 }

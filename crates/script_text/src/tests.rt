@@ -16,9 +16,14 @@ fn verdict(alloc: Global, text: &[u8]) -> (u32, Option<LineFault>) {
 #[test]
 fn each_cause_names_the_first_bad_line(rt: HostRuntime) {
     let alloc = rt.alloc();
-    let cases: [(&[u8], u32, LineFault); 12] = [
+    let cases: [(&[u8], u32, LineFault); 17] = [
         (b"foo", 1, UnknownWord),
-        (b"ids 20000 30000", 1, UnknownWord),
+        (b"ids 16384 4294967295\nids 16384 4294967295", 2, OutOfPlace),
+        (b"table e\nids 16384 16384", 2, OutOfPlace),
+        (b"ids 16384", 1, WordCount),
+        (b"ids 16383 20000", 1, BadNumber),
+        (b"ids 20000 19999", 1, BadNumber),
+        (b"ids 16384 4294967296", 1, BadNumber),
         (b"session\ntable e\nfoo", 2, OutOfPlace),
         (b"get t1", 1, OutOfPlace),
         (b"table", 1, WordCount),
@@ -64,8 +69,9 @@ fn a_line_is_judged_by_its_words_from_the_left(rt: HostRuntime) {
 #[test]
 fn scripts_of_every_layout_are_read(rt: HostRuntime) {
     let alloc = rt.alloc();
-    let cases: [&[u8]; 8] = [
+    let cases: [&[u8]; 9] = [
         b"",
+        b"ids 20000 20000\ntable e",
         b"\n\n \t\n",
         b"# only a comment",
         b"\t table\t e # one\r\nsession\r\n commit\r",
@@ -92,9 +98,10 @@ fn inserts(script: &Script, length: usize, last: u8) -> bool {
 
 #[test]
 fn a_script_has_its_parts(rt: HostRuntime) -> Result<(), ScriptFault> {
-    let text = b"table e\ntable e\nsession\ninsert t2 7 c300.5\nsession\ngo 2\nloop 9 1*4 2!\n";
+    let text =
+        b"ids 16400 16500\ntable e\ntable e\nsession\ninsert t2 7 c300.5\nsession\ngo 2\nloop 9 1*4 2!\n";
     let script = parse_script(rt.alloc(), text)?;
-    assert!(rt; script.low == 16_384 && script.high == 4_294_967_295);
+    assert!(rt; script.low == 16_400 && script.high == 16_500);
     assert!(rt; script.schemas.len() == 2 && script.sessions.len() == 2);
     assert!(rt; inserts(&script, 300, 53));
     let passage = script.schedule.get(1);

@@ -1,8 +1,8 @@
 // Words of a number that is given, and names.
-ghost use Rattle.std.specs.Prelude.{◌≡◌, ◌≤◌, [], length};
+ghost use Rattle.std.specs.Prelude.{◌≡◌, ◌<◌, ◌≤◌, [], length, map, take};
 ghost use Rattle.script_text.specs.Lines.{words};
 ghost use Rattle.script_text.specs.Reading.{Finds};
-ghost use Rattle.script_text.specs.Words.{columns_of, first_of, first_of_all, none, one, session_in, table_in, two};
+ghost use Rattle.script_text.specs.Words.{columns_of, counted, first_of, first_of_all, session_in, table_in, word_at};
 
 use crate::fault::LineFault;
 use crate::lines::{next_word, word_count};
@@ -11,7 +11,7 @@ use tuple_layout::Schema;
 
 // No words.
 pub fn no_words(text: &[u8]) -> Result<(), LineFault>
-    ensures { Finds (λ _. []) result (none (words text.now)) }
+    ensures { Finds (λ _. []) result (counted 0 (words text.now)) }
 {
     match next_word(text) {
         None => Ok(()),
@@ -19,22 +19,36 @@ pub fn no_words(text: &[u8]) -> Result<(), LineFault>
     }
 }
 
-// One word.
-pub fn one_word(text: &[u8]) -> Result<&[u8], LineFault>
-    ensures { Finds (λ w. w.now) result (one (words text.now)) }
-{
-    let (word, rest) = first_word(text)?;
-    no_words(rest)?;
-    Ok(word)
+// Up to five words; the places behind them are empty.
+#[derive(Clone, Copy, Drop)]
+pub struct Words<'a> {
+    pub places: [&'a [u8]; 5],
 }
 
-// Two words.
-pub fn two_words(text: &[u8]) -> Result<(&[u8], &[u8]), LineFault>
-    ensures { Finds (λ p. (p.0.now, p.1.now)) result (two (words text.now)) }
+impl<'a> Words<'a> {
+    // The word at a place, from 0.
+    pub fn at(&self, place: usize) -> &'a [u8]
+        requires { place < 5 }
+        ensures { result.now ≡ word_at (map (λ w. w.now) self.now.places) place }
+    {
+        self.places[place]
+    }
+}
+
+// So many words, up to five.
+pub fn words_of(text: &[u8], count: usize) -> Result<Words<'_>, LineFault>
+    requires { count ≤ 5 }
+    ensures { Finds (λ found. take count (map (λ w. w.now) found.places)) result (counted count (words text.now)) }
 {
-    let (first, rest) = first_word(text)?;
-    let second = one_word(rest)?;
-    Ok((first, second))
+    let mut places = [&text[..0]; 5];
+    let mut rest = text;
+    for i in 0..count {
+        let (word, others) = first_word(rest)?;
+        places[i] = word;
+        rest = others;
+    }
+    no_words(rest)?;
+    Ok(Words { places })
 }
 
 // The first word, and the text behind it.

@@ -2,7 +2,7 @@
 use Rattle.std.proofs.Common.{◌≡◌, ℕ, Bool, true, false, List, [], ◌∷◌, Option, Some, None, refl, sym, ap}
 use Rattle.std.specs.Prelude.{if◌then◌else◌}
 use Rattle.std.specs.Option.{option_map}
-use Rattle.tuple_layout.specs.declared.Storage.{Storage}
+use Rattle.tuple_layout.specs.Schemas.{TableSchema}
 use Rattle.command_set.specs.declared.state.Plain.{Plain}
 use Rattle.command_set.specs.declared.state.Transaction.{Transaction}
 use Rattle.command_set.specs.Plain.{session_of}
@@ -49,7 +49,7 @@ pub record Holds (P : Reply → Type 0) : Type 0 where
   pub taken : P replies.Taken
   pub too_big : (n : ℕ) → P (replies.TooBig n)
 
-refused_have : (P : Reply → Type 0) (schemas : List (List Storage)) (m : Plain) (s : ℕ) (t : Transaction) (command : Command) → IsBuilt command → Holds P → AllThere P (refusals schemas m s t command)
+refused_have : (P : Reply → Type 0) (schemas : List TableSchema) (m : Plain) (s : ℕ) (t : Transaction) (command : Command) → IsBuilt command → Holds P → AllThere P (refusals schemas m s t command)
 refused_have P schemas m s t (commands.Begin level) built h = (test_has P _ _ h.inside, tt)
 refused_have P schemas m s t commands.Commit built h = (test_has P _ _ h.outside, (test_has P _ _ h.rolled_back, tt))
 refused_have P schemas m s t commands.Rollback built h = (test_has P _ _ h.outside, tt)
@@ -66,7 +66,7 @@ refused_have P schemas m s t (commands.VacuumMain table) built h = absurd built
 refused_have P schemas m s t (commands.VacuumToast table) built h = absurd built
 refused_have P schemas m s t (commands.Rewrite table) built h = absurd built
 
-reply_has : (P : Reply → Type 0) (schemas : List (List Storage)) (m : Plain) (s : ℕ) (command : Command) → IsBuilt command → Holds P → ((n : Plain) (t : Transaction) → P (granted n t command)) → P (answer schemas m s command).reply
+reply_has : (P : Reply → Type 0) (schemas : List TableSchema) (m : Plain) (s : ℕ) (command : Command) → IsBuilt command → Holds P → ((n : Plain) (t : Transaction) → P (granted n t command)) → P (answer schemas m s command).reply
 reply_has P schemas m s command built h g =
     let n = once_used m s (session_of m s) (table_of command) in
     let t = transaction_of (session_of n s) in
@@ -89,7 +89,7 @@ okay_if_granted = record {
 }
 
 -- what a granted command that goes on says at once
-pub said_at_once : (schemas : List (List Storage)) (m : Plain) (s : ℕ) (command : Command) → IsBuilt command → is_data command ≡ true → is_granted (answer schemas m s command).reply ≡ true → (if is_read command then None else Some replies.Okay) ≡ (if is_read command then None else Some (answer schemas m s command).reply)
+pub said_at_once : (schemas : List TableSchema) (m : Plain) (s : ℕ) (command : Command) → IsBuilt command → is_data command ≡ true → is_granted (answer schemas m s command).reply ≡ true → (if is_read command then None else Some replies.Okay) ≡ (if is_read command then None else Some (answer schemas m s command).reply)
 said_at_once schemas m s (commands.Begin level) built rows granted = absurd (not_true rows)
 said_at_once schemas m s commands.Commit built rows granted = absurd (not_true rows)
 said_at_once schemas m s commands.Rollback built rows granted = absurd (not_true rows)
@@ -138,5 +138,5 @@ granted_not_started (commands.VacuumToast table) n t built = absurd built
 granted_not_started (commands.Rewrite table) n t built = absurd built
 
 -- no reply of these commands says that upkeep has begun
-pub not_started : (schemas : List (List Storage)) (m : Plain) (s : ℕ) (command : Command) → IsBuilt command → is_started (answer schemas m s command).reply ≡ false
+pub not_started : (schemas : List TableSchema) (m : Plain) (s : ℕ) (command : Command) → IsBuilt command → is_started (answer schemas m s command).reply ≡ false
 not_started schemas m s command built = reply_has (λ reply. is_started reply ≡ false) schemas m s command built none_started (λ n t. granted_not_started command n t built)

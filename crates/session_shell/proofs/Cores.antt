@@ -1,7 +1,7 @@
 -- What the core's calls leave, one after another.
 use Rattle.std.proofs.Common.{◌≡◌, ◌<◌, ◌-◌, ℕ, true, false, List, Option, Some, None, slice_set, ap, ◌∙◌, subst, arith, get_or-set_same}
 use Rattle.std.specs.Prelude.{if◌then◌else◌}
-use Rattle.tuple_layout.specs.declared.Storage.{Storage}
+use Rattle.tuple_layout.specs.Schemas.{TableSchema}
 use Rattle.command_set.specs.Answers.{answer}
 use Rattle.command_set.specs.declared.Command.{Command}
 use Rattle.command_set.specs.declared.Kind.TheVariants as kinds
@@ -29,7 +29,7 @@ seat_submitted c s command inside = ap (λ (seat : Seat). seat.job) (get_or-set_
 pub began : (old mid new : CoreState) (s : ℕ) (command : Command) (advance : Advance) → IsSession old.seats s → mid ≡ after_submit old s command → StandsOn old mid → Moved mid s new advance → Runs old s command new advance
 began old mid new s command advance inside is on moved m replies within stands =
     let by : Runs mid s command new advance = subst (λ (job : Job). MovedBy job mid s new advance) (ap (λ (c : CoreState). (seat_of c s).job) is ∙ seat_submitted old s command inside) moved.by in
-    subst (λ (schemas : List (List Storage)). Stands new (answer schemas m s command).after (slice_set replies (s - 1) (Some (answer schemas m s command).reply)) × Says command (seat_of new s).job advance (answer schemas m s command).reply) (ap (λ (c : CoreState). c.schemas) is) (by m replies within (on.stands m replies stands))
+    subst (λ (schemas : List TableSchema). Stands new (answer schemas m s command).after (slice_set replies (s - 1) (Some (answer schemas m s command).reply)) × Says command (seat_of new s).job advance (answer schemas m s command).reply) (ap (λ (c : CoreState). c.schemas) is) (by m replies within (on.stands m replies stands))
 
 -- want of memory after the submission
 pub falls_on : (old mid new : CoreState) (s : ℕ) → StandsOn old mid → Falls mid s new → Falls old s new

@@ -1,10 +1,11 @@
 -- How the sessions finish, one after another.
-use Rattle.std.proofs.Common.{◌≡◌, ◌≢◌, ◌<◌, ◌≤◌, ◌+◌, ◌-◌, inl, inr, ℕ, zero, suc, Bool, true, false, List, [], ◌∷◌, ◌++◌, length, get_or, slice_get, refl, sym, ap, ◌∙◌, subst, arith, eq-eqb, append_assoc, append-nil, get_or-set_other}
+use Rattle.std.proofs.Common.{◌≡◌, ◌≢◌, ◌<◌, ◌≤◌, ◌+◌, ◌-◌, inl, inr, ℕ, zero, suc, Bool, true, false, List, [], ◌∷◌, ◌++◌, Option, length, get_or, slice_get, refl, sym, ap, ◌∙◌, subst, arith, eq-eqb, append_assoc, append-nil, get_or-set_other}
 use Rattle.std.specs.Prelude.{MatchBool, ◌==◌, nat_lt, not}
 use Rattle.std.specs.List.{list_all, enumerate_from, range_with_len}
 use Rattle.std.specs.Option.{unwrap_or}
 use Rattle.std.proofs.lemmas.Bool.{cases_eq}
 use Rattle.std.proofs.lemmas.Bool.Decides.{nat_tests}
+use Rattle.command_set.proofs.Numbered.{nth_is}
 use Rattle.command_set.specs.declared.journal.Told.{Told}
 use Rattle.command_set.specs.declared.Script.{Script}
 use Rattle.command_set.specs.declared.Command.{Command}
@@ -195,13 +196,11 @@ pub complete : (hub : HubState) (ps : List Progress) → IsHub hub ps → ((j : 
 complete hub ps h over =
     let run = run_of hub.script hub.journal in
     all_from run.told 0 hub.script.sessions (λ i within.
-    let at : i + 1 - 1 ≡ i = omega arith in
     let from : 0 + i ≡ i = omega arith in
-    let place = place_in_is hub.script hub.core hub.journal hub.kept ps run (i + 1) h (omega arith) (omega (arith, within)) in
-    let o = over (i + 1) (omega arith) (omega (arith, within)) in
-    let ended : has_ended (told_of run (i + 1)) (length (commands_of hub.script (i + 1))) ≡ true = ended_told (told_of run (i + 1)) _ (ap (λ (p : Place). p.begun) (sym place) ∙ o.begun) (h.each (i + 1) (omega arith) (omega (arith, within))).quiet in
-    subst (λ (m : ℕ). has_ended (unwrap_or (slice_get run.told m) untold) (length (unwrap_or (slice_get hub.script.sessions i) [])) ≡ true) (sym from)
-    (subst (λ (m : ℕ). has_ended (unwrap_or (slice_get run.told m) untold) (length (unwrap_or (slice_get hub.script.sessions m) [])) ≡ true) at ended))
+    let place = place_in_is hub.script hub.core hub.journal hub.kept ps run (suc i) h (omega arith) (omega (arith, within)) in
+    let o = over (suc i) (omega arith) (omega (arith, within)) in
+    let ended : has_ended (told_of run (suc i)) (length (commands_of hub.script (suc i))) ≡ true = ended_told (told_of run (suc i)) _ (ap (λ (p : Place). p.begun) (sym place) ∙ o.begun) (h.each (suc i) (omega arith) (omega (arith, within))).quiet in
+    subst (λ (m : ℕ). has_ended (unwrap_or (slice_get run.told m) untold) (length (unwrap_or (slice_get hub.script.sessions i) [])) ≡ true) (sym from) ended)
 
 pub over_all : (old now : HubState) (i : ℕ) → EmptiedAll old now i → i ≡ length old.script.sessions → (j : ℕ) → 1 ≤ j → j ≤ length now.script.sessions → IsOver now.script (places_in now) j
 over_all old now i h all j one within = subst (λ (script : Script). IsOver script (places_in now) j) (sym h.ran.script) (h.over j one (omega (arith, within, all, ap (λ (script : Script). length script.sessions) h.ran.script)))
@@ -234,5 +233,5 @@ pub left_by : (hub : HubState) (ps : List Progress) (s n : ℕ) (x : Progress) (
 left_by hub ps s n x session h one within is session_is n_is =
     let begun : x.begun ≡ (place_of (places_in hub) s).begun = number_is hub ps s x h one within is ∙ sym (ap (λ (p : Place). p.begun) (place_in_is hub.script hub.core hub.journal hub.kept ps (run_of hub.script hub.journal) s h one within)) in
     let told : (place_of (places_in hub) s).begun ≡ (told_of (run_of hub.script hub.journal) s).begun = ap (λ (p : Place). p.begun) (place_in_is hub.script hub.core hub.journal hub.kept ps (run_of hub.script hub.journal) s h one within) in
-    let count : n ≡ length (commands_of hub.script s) = n_is ∙ ap length (get_or_read hub.script.sessions (s - 1) session (omega (arith, one, within)) session_is [] ∙ sym (unwrap_or-slice_get hub.script.sessions (s - 1) [])) in
+    let count : n ≡ length (commands_of hub.script s) = n_is ∙ ap length (get_or_read hub.script.sessions (s - 1) session (omega (arith, one, within)) session_is [] ∙ sym (unwrap_or-slice_get hub.script.sessions (s - 1) []) ∙ ap (λ (o : Option (List Command)). unwrap_or o []) (sym (nth_is hub.script.sessions s one))) in
     match_lt x.begun n _ _ (λ less. omega (arith, less, begun, count)) (λ past. omega (arith, past, begun, count, told, (h.each s one within).within))

@@ -6,7 +6,8 @@ use Rattle.std.proofs.lemmas.Bool.Decides.{nat_tests}
 use Rattle.std.proofs.lemmas.Option.{slice_get_within, same_Some, get_or_from_slice_get}
 use Rattle.std.proofs.lemmas.List.{map-set, length-map}
 use Rattle.list_facts.proofs.Changed.{after_push, get_push_left, get_push_at, get_set_other}
-use Rattle.tuple_layout.specs.declared.Storage.{Storage}
+use Rattle.tuple_layout.specs.Schemas.{TableSchema}
+use Rattle.command_set.proofs.Numbered.{nth_within}
 use Rattle.command_set.specs.declared.state.Plain.{Plain}
 use Rattle.command_set.specs.declared.journal.Line.{Line}
 use Rattle.command_set.specs.declared.journal.Run.{Run}
@@ -131,7 +132,7 @@ session_begins script journal lines s n begun kind reply said job next within be
     }
 
 number_within : (script : Script) (s n : ℕ) (command : Command) → 1 ≤ n → command_at script s n ≡ Some command → n ≤ length (commands_of script s)
-number_within script s n command one there = omega (arith, slice_get_within (commands_of script s) (n - 1) command there)
+number_within script s n command one there = (nth_within (commands_of script s) n command there).1
 
 -- one more first entry
 pub keeps_first : (script : Script) (core core' : CoreState) (journal : List JournalEntry) (kept : List KeptLine) (ps : List Progress) (run : Run) (s n : ℕ) (kind : Kind) (command : Command) (reply : Option Reply) (said : Reply) (plain : Plain) (kept_reply : Option Reply) →
@@ -251,11 +252,11 @@ pub first_by : (kind : Kind) (goes_on : Bool) (kept_reply : Option Reply) (scrip
 first_by kinds.Run true kept_reply script core core' journal kept ps run s n command steps h is one within idle next there others =
     let e : JournalEntry = record { session = s; number = n; kind = kinds.Run } in
     let built = h.rules.built s n command there in
-    let step = subst (λ (schemas : List (List Storage)). Stands core' (answer schemas run.plain s command).after (slice_set (replies_of run) (s - 1) (Some (answer schemas run.plain s command).reply)) × SaysFirst true command (seat_of core' s).job kept_reply (answer schemas run.plain s command).reply) h.schemas (steps run.plain (replies_of run) (omega (arith, length-map run.told (λ (t : Told). t.reply), h.told)) h.stands) in
+    let step = subst (λ (schemas : List TableSchema). Stands core' (answer schemas run.plain s command).after (slice_set (replies_of run) (s - 1) (Some (answer schemas run.plain s command).reply)) × SaysFirst true command (seat_of core' s).job kept_reply (answer schemas run.plain s command).reply) h.schemas (steps run.plain (replies_of run) (omega (arith, length-map run.told (λ (t : Told). t.reply), h.told)) h.stands) in
     let said = (answer script.schemas run.plain s command).reply in
     let line : Line = record { session = s; number = n; reply = said } in
     let busy : IsBusy script s (record { begun = n; last = Some kinds.Run; reply = Some said }) = record { begun = omega (arith, next); last = refl; reply = said; answered = refl; granted = step.1.1; command = command; there = there; for_rows = step.1.0 } in
-    let legal = legal_push script journal e h.legal (subst (λ (r : Run). may_follow script r e ≡ true) is (may_first script run s n kinds.Run command one next (h.each s one within).quiet there refl)) in
+    let legal = legal_push script journal e h.legal (subst (λ (r : Run). may_follow script r e ≡ true) is (may_first script run s n kinds.Run command next (h.each s one within).quiet there refl)) in
     record {
       reply = Some said;
       told = ap (λ (r : Run). r.told) (run_moment script run s n command there);
@@ -270,10 +271,10 @@ first_by kinds.Run true kept_reply script core core' journal kept ps run s n com
 first_by kinds.Run false kept_reply script core core' journal kept ps run s n command steps h is one within idle next there others =
     let e : JournalEntry = record { session = s; number = n; kind = kinds.Run } in
     let built = h.rules.built s n command there in
-    let step = subst (λ (schemas : List (List Storage)). Stands core' (answer schemas run.plain s command).after (slice_set (replies_of run) (s - 1) (Some (answer schemas run.plain s command).reply)) × SaysFirst false command (seat_of core' s).job kept_reply (answer schemas run.plain s command).reply) h.schemas (steps run.plain (replies_of run) (omega (arith, length-map run.told (λ (t : Told). t.reply), h.told)) h.stands) in
+    let step = subst (λ (schemas : List TableSchema). Stands core' (answer schemas run.plain s command).after (slice_set (replies_of run) (s - 1) (Some (answer schemas run.plain s command).reply)) × SaysFirst false command (seat_of core' s).job kept_reply (answer schemas run.plain s command).reply) h.schemas (steps run.plain (replies_of run) (omega (arith, length-map run.told (λ (t : Told). t.reply), h.told)) h.stands) in
     let said = (answer script.schemas run.plain s command).reply in
     let line : Line = record { session = s; number = n; reply = said } in
-    let legal = legal_push script journal e h.legal (subst (λ (r : Run). may_follow script r e ≡ true) is (may_first script run s n kinds.Run command one next (h.each s one within).quiet there refl)) in
+    let legal = legal_push script journal e h.legal (subst (λ (r : Run). may_follow script r e ≡ true) is (may_first script run s n kinds.Run command next (h.each s one within).quiet there refl)) in
     record {
       reply = Some said;
       told = ap (λ (r : Run). r.told) (run_moment script run s n command there);
@@ -290,9 +291,9 @@ first_by kinds.Memory goes_on kept_reply script core core' journal kept ps run s
     let line : Line = record { session = s; number = n; reply = replies.Memory } in
     let over = steps.0.over in
     let may : may_come_first command kinds.Memory ≡ true = ap not steps.1 in
-    let legal = legal_push script journal e h.legal (subst (λ (r : Run). may_follow script r e ≡ true) is (may_first script run s n kinds.Memory command one next (h.each s one within).quiet there may)) in
+    let legal = legal_push script journal e h.legal (subst (λ (r : Run). may_follow script r e ≡ true) is (may_first script run s n kinds.Memory command next (h.each s one within).quiet there may)) in
     let other : ((told_of run s).begun == n) ≡ false = next_is_other (told_of run s).begun n next in
-    let want = run_want script run s n h.stands.upkeep other in
+    let want = run_want script run s n command h.stands.upkeep other there in
     record {
       reply = None;
       told = ap (λ (r : Run). r.told) want;

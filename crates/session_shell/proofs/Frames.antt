@@ -7,6 +7,8 @@ use Rattle.std.proofs.lemmas.Option.{unwrap_or-slice_get, slice_get-get_or}
 use Rattle.std.proofs.lemmas.Bool.{cases_eq}
 use Rattle.std.proofs.lemmas.List.Sums.{sum_by-cons, sum_by-set}
 use Rattle.list_facts.proofs.Changed.{get_set_same, get_set_other}
+use Rattle.command_set.specs.Plain.{nth}
+use Rattle.command_set.proofs.Numbered.{nth_is, nth_set_other, nth_set_same}
 use Rattle.command_set.specs.declared.journal.Told.{Told}
 use Rattle.command_set.specs.declared.Command.{Command}
 use Rattle.command_set.specs.declared.Kind.{Kind}
@@ -33,11 +35,15 @@ places_apart : (s t : ℕ) → 1 ≤ s → 1 ≤ t → t ≢ s → t - 1 ≢ s -
 places_apart s t one one' apart e = apart (omega arith)
 
 -- what is told of a session
-pub told_here : (tolds : List Told) (s : ℕ) (told : Told) → 1 ≤ s → s ≤ length tolds → unwrap_or (slice_get (slice_set tolds (s - 1) told) (s - 1)) untold ≡ told
-told_here tolds s told one within = ap (λ (o : Option Told). unwrap_or o untold) (get_set_same tolds (s - 1) told (omega arith))
+pub told_here : (tolds : List Told) (s : ℕ) (told : Told) → 1 ≤ s → s ≤ length tolds → unwrap_or (nth (slice_set tolds (s - 1) told) s) untold ≡ told
+told_here tolds s told one within = ap (λ (o : Option Told). unwrap_or o untold) (nth_set_same tolds s told one within)
 
-pub told_there : (tolds : List Told) (s t : ℕ) (told : Told) → 1 ≤ s → 1 ≤ t → t ≢ s → unwrap_or (slice_get (slice_set tolds (s - 1) told) (t - 1)) untold ≡ unwrap_or (slice_get tolds (t - 1)) untold
-told_there tolds s t told one one' apart = ap (λ (o : Option Told). unwrap_or o untold) (get_set_other tolds (s - 1) (t - 1) told (places_apart s t one one' apart))
+pub told_there : (tolds : List Told) (s t : ℕ) (told : Told) → 1 ≤ s → 1 ≤ t → t ≢ s → unwrap_or (nth (slice_set tolds (s - 1) told) t) untold ≡ unwrap_or (nth tolds t) untold
+told_there tolds s t told one one' apart = ap (λ (o : Option Told). unwrap_or o untold) (nth_set_other tolds s t told one apart)
+
+-- what is told of a session stands at its place
+pub told_at : (tolds : List Told) (s : ℕ) → 1 ≤ s → get_or tolds (s - 1) untold ≡ unwrap_or (nth tolds s) untold
+told_at tolds s one = sym (unwrap_or-slice_get tolds (s - 1) untold) ∙ ap (λ (o : Option Told). unwrap_or o untold) (sym (nth_is tolds s one))
 
 -- another session's seat
 pub seat_there : (old new : CoreState) (s t : ℕ) → 1 ≤ s → 1 ≤ t → t ≢ s → OthersStay old s new → seat_of new t ≡ seat_of old t
@@ -97,22 +103,22 @@ least_by begun kinds.NoValueId = omega arith
 least_by begun kinds.Memory = omega arith
 
 -- a first entry is one of those that the next command may have
-pub one_first : (tolds : List Told) (s n : ℕ) (told : Told) (kind : Kind) → 1 ≤ s → s ≤ length tolds → n ≡ (unwrap_or (slice_get tolds (s - 1)) untold).begun + 1 → told.begun ≡ n → told.last ≡ Some kind → sum_by most_entries tolds + 1 ≤ sum_by most_entries (slice_set tolds (s - 1) told)
+pub one_first : (tolds : List Told) (s n : ℕ) (told : Told) (kind : Kind) → 1 ≤ s → s ≤ length tolds → n ≡ (unwrap_or (nth tolds s) untold).begun + 1 → told.begun ≡ n → told.last ≡ Some kind → sum_by most_entries tolds + 1 ≤ sum_by most_entries (slice_set tolds (s - 1) told)
 one_first tolds s n told kind one within next begun last =
     let set = sum_by-set most_entries tolds (s - 1) told untold (omega arith) in
-    let here : get_or tolds (s - 1) untold ≡ unwrap_or (slice_get tolds (s - 1)) untold = sym (unwrap_or-slice_get tolds (s - 1) untold) in
+    let here : get_or tolds (s - 1) untold ≡ unwrap_or (nth tolds s) untold = told_at tolds s one in
     let old : most_entries (get_or tolds (s - 1) untold) ≤ 2 * (get_or tolds (s - 1) untold).begun = most_by (get_or tolds (s - 1) untold).begun (get_or tolds (s - 1) untold).last in
-    let same : (get_or tolds (s - 1) untold).begun ≡ (unwrap_or (slice_get tolds (s - 1)) untold).begun = ap (λ (t : Told). t.begun) here in
+    let same : (get_or tolds (s - 1) untold).begun ≡ (unwrap_or (nth tolds s) untold).begun = ap (λ (t : Told). t.begun) here in
     let new : 2 * told.begun - 1 ≤ most_entries told = subst (λ (k : Option Kind). 2 * told.begun - 1 ≤ most_entries_by told.begun k) (sym last) (least_by told.begun kind) in
     omega (arith, set, old, same, new, next, begun)
 
 -- a second entry is one of those that the command may have
-pub one_second : (tolds : List Told) (s : ℕ) (told : Told) → 1 ≤ s → s ≤ length tolds → told.begun ≡ (unwrap_or (slice_get tolds (s - 1)) untold).begun → 1 ≤ told.begun → (unwrap_or (slice_get tolds (s - 1)) untold).last ≡ Some kinds.Run → told.last ≡ Some kinds.Memory → sum_by most_entries tolds + 1 ≤ sum_by most_entries (slice_set tolds (s - 1) told)
+pub one_second : (tolds : List Told) (s : ℕ) (told : Told) → 1 ≤ s → s ≤ length tolds → told.begun ≡ (unwrap_or (nth tolds s) untold).begun → 1 ≤ told.begun → (unwrap_or (nth tolds s) untold).last ≡ Some kinds.Run → told.last ≡ Some kinds.Memory → sum_by most_entries tolds + 1 ≤ sum_by most_entries (slice_set tolds (s - 1) told)
 one_second tolds s told one within begun positive was last =
     let set = sum_by-set most_entries tolds (s - 1) told untold (omega arith) in
-    let here : get_or tolds (s - 1) untold ≡ unwrap_or (slice_get tolds (s - 1)) untold = sym (unwrap_or-slice_get tolds (s - 1) untold) in
+    let here : get_or tolds (s - 1) untold ≡ unwrap_or (nth tolds s) untold = told_at tolds s one in
     let old : most_entries (get_or tolds (s - 1) untold) ≡ 2 * told.begun - 1 =
-    ap most_entries here ∙ ap (λ (k : Option Kind). most_entries_by (unwrap_or (slice_get tolds (s - 1)) untold).begun k) was ∙ ap (λ (b : ℕ). 2 * b - 1) (sym begun) in
+    ap most_entries here ∙ ap (λ (k : Option Kind). most_entries_by (unwrap_or (nth tolds s) untold).begun k) was ∙ ap (λ (b : ℕ). 2 * b - 1) (sym begun) in
     let new : most_entries told ≡ 2 * told.begun = ap (λ (k : Option Kind). most_entries_by told.begun k) last in
     omega (arith, set, old, new, positive)
 

@@ -7,6 +7,7 @@ use Rattle.std.proofs.lemmas.Bool.Decides.{nat_tests}
 use Rattle.std.proofs.lemmas.Option.{slice_get_within, same_Some, get_or_from_slice_get, slice_get-map}
 use Rattle.std.proofs.lemmas.List.{map-set, length-map, get_or_read}
 use Rattle.list_facts.proofs.Changed.{get_set_same, get_set_other, get_push_at, set_same}
+use Rattle.command_set.specs.Plain.{nth}
 use Rattle.command_set.specs.declared.journal.Line.{Line}
 use Rattle.command_set.specs.declared.journal.Run.{Run}
 use Rattle.command_set.specs.declared.journal.Told.{Told}
@@ -285,7 +286,7 @@ keeps_want script core core' journal kept ps run s at h is one within busy own f
       told = length-set run.told (s - 1) told ∙ h.told;
       places = length-set ps (s - 1) _ ∙ h.places;
       stands = subst (Stands core' (with_failure run.plain s)) (sym (map-set (λ (t : Told). t.reply) run.told (s - 1) told)) stays;
-      legal = legal_push script journal e h.legal (subst (λ (r : Run). may_follow script r e ≡ true) is (may_second script run s (told_of run s).begun kinds.Memory busy.command busy.reply one refl busy.last busy.answered busy.there may));
+      legal = legal_push script journal e h.legal (subst (λ (r : Run). may_follow script r e ≡ true) is (may_second script run s (told_of run s).begun kinds.Memory busy.command busy.reply refl busy.last busy.answered busy.there may));
       lines = λ k.
           set_both kept (kept_of script run core) view' run.lines at own.line (replied (slice_index_or kept at no_line) (Some replies.Memory)) h.lines own.there own.within
           (own.replied replies.Memory
@@ -383,7 +384,7 @@ hub_wants old core ps s at h one within past is falls others =
     let ps' = slice_set ps (s - 1) (record { begun = b; entry = length old.journal; line = at }) in
     let keeps : IsHub new ps' = subst (Keeps old.script core new.journal new.kept ps') (sym after) (keeps_want old.script old.core core old.journal old.kept ps run s at h refl one within busy own falls others) in
     let told_is : (run_of new.script new.journal).told ≡ slice_set run.told (s - 1) told = ap (λ (r : Run). r.told) after in
-    let here : (told_of (run_of new.script new.journal) s).begun ≡ b = ap (λ (ts : List Told). (unwrap_or (slice_get ts (s - 1)) untold).begun) told_is ∙ ap (λ (t : Told). t.begun) (told_here run.told s told one (omega (arith, h.told))) in
+    let here : (told_of (run_of new.script new.journal) s).begun ≡ b = ap (λ (ts : List Told). (unwrap_or (nth ts s) untold).begun) told_is ∙ ap (λ (t : Told). t.begun) (told_here run.told s told one (omega (arith, h.told))) in
     let t : TurnMade = turn_made s (Some e) (turns.Ended (length old.journal)) in
     record {
       keeps = keeps;

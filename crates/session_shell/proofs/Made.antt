@@ -1,5 +1,5 @@
 -- One turn of a hub.
-use Rattle.std.proofs.Common.{◌≡◌, ◌<◌, ◌≤◌, ◌+◌, ◌-◌, ◌*◌, ℕ, Bool, true, false, zero, suc, get_or, List, [], ◌∷◌, ◌++◌, Some, None, length, slice_get, slice_set, refl, sym, ap, ◌∙◌, subst, arith, length-append, append-nil}
+use Rattle.std.proofs.Common.{◌≡◌, ◌<◌, ◌≤◌, ◌+◌, ◌-◌, ◌*◌, ℕ, Bool, true, false, zero, suc, get_or, List, [], ◌∷◌, ◌++◌, Option, Some, None, length, slice_get, slice_set, refl, sym, ap, ◌∙◌, subst, arith, length-append, append-nil}
 use Rattle.std.specs.Prelude.{if◌then◌else◌}
 use Rattle.std.specs.Option.{unwrap_or}
 use Rattle.std.specs.List.{sum_by}
@@ -7,6 +7,9 @@ use Rattle.std.proofs.lemmas.Option.{slice_get-get_or, unwrap_or-slice_get}
 use Rattle.std.proofs.lemmas.List.{get_or_read}
 use Rattle.std.proofs.lemmas.List.Sums.{sum_by-cons}
 use Rattle.list_facts.proofs.Changed.{set_same}
+use Rattle.command_set.specs.Plain.{nth}
+use Rattle.command_set.proofs.Numbered.{nth_is}
+use Rattle.session_shell.proofs.Frames.{told_at}
 use Rattle.command_set.specs.declared.journal.Run.{Run}
 use Rattle.command_set.specs.declared.journal.Told.{Told}
 use Rattle.command_set.specs.declared.Script.{Script}
@@ -42,7 +45,7 @@ others_same core s = record { schemas = refl; count = refl; each = λ i other. r
 
 -- where a session of a hub is
 pub place_in_is : (script : Script) (core : CoreState) (journal : List JournalEntry) (kept : List KeptLine) (ps : List Progress) (run : Run) (s : ℕ) → Keeps script core journal kept ps run → 1 ≤ s → s ≤ length script.sessions → place_of (places_by run.told core.seats) s ≡ record { begun = (told_of run s).begun; under_way = is_past_moment (seat_of core s).job }
-place_in_is script core journal kept ps run s h one within = place_is run.told core.seats (s - 1) (omega (arith, h.told)) (omega (arith, h.seats))
+place_in_is script core journal kept ps run s h one within = place_is run.told core.seats (s - 1) (omega (arith, h.told)) (omega (arith, h.seats)) ∙ ap (λ (o : Option Told). record { begun = (unwrap_or o untold).begun; under_way = is_past_moment (seat_of core s).job }) (sym (nth_is run.told s one))
 
 -- one turn
 pub ran_one : (old new : HubState) (ps : List Progress) (s : ℕ) (t : TurnMade) (told : Told) →
@@ -68,8 +71,8 @@ ran_one old new ps s t told h one within own same grown turn told_is others plac
     }
 
 -- what is told of a session stands at its place
-pub told_get : (tolds : List Told) (s : ℕ) → 1 ≤ s → s ≤ length tolds → slice_get tolds (s - 1) ≡ Some (unwrap_or (slice_get tolds (s - 1)) untold)
-told_get tolds s one within = slice_get-get_or tolds (s - 1) untold (omega arith) ∙ ap Some (sym (unwrap_or-slice_get tolds (s - 1) untold))
+pub told_get : (tolds : List Told) (s : ℕ) → 1 ≤ s → s ≤ length tolds → slice_get tolds (s - 1) ≡ Some (unwrap_or (nth tolds s) untold)
+told_get tolds s one within = slice_get-get_or tolds (s - 1) untold (omega arith) ∙ ap Some (told_at tolds s one)
 
 -- nothing is left
 pub rests : (old : HubState) (ps : List Progress) (s n : ℕ) → IsHub old ps → 1 ≤ s → s ≤ length old.script.sessions → (seat_of old.core s).job ≡ jobs.Idle → n ≡ (told_of (run_of old.script old.journal) s).begun + 1 → command_at old.script s n ≡ None → MakesTurn old s old turns.Nothing
@@ -163,7 +166,7 @@ begun_hub old core ps s n command first begins h one within idle next there othe
     let keeps : IsHub new (moved old ps s n) = subst (Keeps old.script core new.journal new.kept (moved old ps s n)) (sym (run_push old.script old.journal e)) k.keeps in
     let told : Told = record { begun = n; last = Some first.kind; reply = k.reply } in
     let told_is : (run_of new.script new.journal).told ≡ slice_set run.told (s - 1) told = ap (λ (r : Run). r.told) (run_push old.script old.journal e) ∙ k.told in
-    let here : (told_of (run_of new.script new.journal) s).begun ≡ n = ap (λ (ts : List Told). (unwrap_or (slice_get ts (s - 1)) untold).begun) told_is ∙ ap (λ (t : Told). t.begun) (told_here run.told s told one (omega (arith, h.told))) in
+    let here : (told_of (run_of new.script new.journal) s).begun ≡ n = ap (λ (ts : List Told). (unwrap_or (nth ts s) untold).begun) told_is ∙ ap (λ (t : Told). t.begun) (told_here run.told s told one (omega (arith, h.told))) in
     record {
       keeps = keeps;
       made = λ turn is. made_by first.goes_on old new ps s n command first.kind told turn h one within idle next there others refl refl refl told_is k.past k.more
@@ -187,8 +190,7 @@ pub fits : (hub : HubState) (ps : List Progress) → IsHub hub ps → Fits hub.s
 fits hub ps h =
     let run = run_of hub.script hub.journal in
     let begun : (i : ℕ) → i < length run.told → (unwrap_or (slice_get run.told i) untold).begun ≤ length (unwrap_or (slice_get hub.script.sessions i) []) = λ (i : ℕ) (k : i < length run.told).
-    let back : i + 1 - 1 ≡ i = omega arith in
-    subst (λ (j : ℕ). (unwrap_or (slice_get run.told j) untold).begun ≤ length (unwrap_or (slice_get hub.script.sessions j) [])) back ((h.each (i + 1) (omega arith) (omega (arith, k, h.told))).within) in
+    (h.each (suc i) (omega arith) (omega (arith, k, h.told))).within in
     let most = all_entries run.told hub.script.sessions h.told begun in
     record {
       journal_fits = omega (arith, most, h.entries);
@@ -229,6 +231,10 @@ pub record Room (old : HubState) (n : ℕ) : Type 0 where
   pub number : n ≤ 10000
   pub few : command_count old.script ≤ 10000
 
+count_in_sum : (sessions : List (List Command)) (s : ℕ) → length (unwrap_or (nth sessions s) []) ≤ sum_by length sessions
+count_in_sum sessions zero = omega arith
+count_in_sum sessions (suc i) = one_in_sum sessions i
+
 pub room_left : (old : HubState) (core : CoreState) (ps : List Progress) (s n : ℕ) (first : First) → HubBegun old core ps s n first → 1 ≤ s → s ≤ length old.script.sessions → IsHub old ps → n ≡ (told_of (run_of old.script old.journal) s).begun + 1 → Room old n
 room_left old core ps s n first b one within h next =
     let room = fits (recorded old core s n first) (moved old ps s n) b.keeps in
@@ -237,7 +243,7 @@ room_left old core ps s n first b one within h next =
     record {
       entry = omega (arith, room.journal_fits, length-append old.journal ((record { session = s; number = n; kind = first.kind }) ∷ []));
       line = omega (arith, room.kept_fits, length-append old.kept ((record { session = s; number = n; reply = first.reply }) ∷ []));
-      number = omega (arith, own.within, here, one_in_sum old.script.sessions (s - 1), room.few);
+      number = omega (arith, own.within, here, count_in_sum old.script.sessions s, room.few);
       few = room.few;
     }
 

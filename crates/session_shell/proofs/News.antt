@@ -3,6 +3,7 @@ use Rattle.std.proofs.Common.{◌≡◌, ◌-◌, ℕ, zero, suc, true, false, L
 use Rattle.std.specs.Prelude.{map as mapped}
 use Rattle.std.specs.Option.{unwrap_or}
 use Rattle.std.proofs.lemmas.List.{length-replicate}
+use Rattle.command_set.proofs.Numbered.{nth_is}
 use Rattle.command_set.specs.declared.journal.Told.{Told}
 use Rattle.command_set.specs.declared.Script.{Script}
 use Rattle.command_set.specs.declared.Reply.{Reply}
@@ -67,7 +68,7 @@ keeps_new script core ps rules schemas seats places stands =
       lines = λ k. refl;
       from_one = λ k l there. absurd (cc);
       each = λ s one within. session_at script [] [] s untold (told_of (first_run script) s) jobs.Idle (seat_of core s).job at_start (progress_of ps s)
-          (get_replicate n (s - 1) untold)
+          (ap (λ (o : Option Told). unwrap_or o untold) (nth_is (replicate n untold) s one) ∙ get_replicate n (s - 1) untold)
           (ap (λ (xs : List Seat). (get_or xs (s - 1) nobody).job) seats ∙ ap (λ (x : Seat). x.job) (at_replicate n (s - 1) nobody))
           (ap (λ (xs : List Progress). get_or xs (s - 1) at_start) places ∙ at_replicate n (s - 1) at_start)
           (session_first script s);

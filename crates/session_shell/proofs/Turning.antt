@@ -14,7 +14,7 @@ use Rattle.session_shell.specs.declared.hub.Turn.{Turn}
 use Rattle.session_shell.specs.Hubs.{HubState}
 use Rattle.session_shell.specs.Turns.{TurnMade, Place, after_turn, after_turns, entries_of, entry_in, AreTurns, Ran, MakesTurn, places_in}
 use Rattle.session_shell.specs.Follows.{AllOf, AreOfItems, RunsItem, RunsItems, repeated, items_in, items_of}
-use Rattle.session_shell.proofs.Runs.{run_on-append}
+use Rattle.command_set.proofs.Moments.{run_on-append}
 
 -- the entries of turns
 pub entries-append : (ts us : List TurnMade) → entries_of (ts ++ us) ≡ entries_of ts ++ entries_of us

@@ -7,6 +7,7 @@ use Rattle.command_set.specs.declared.JournalEntry.{JournalEntry}
 use Rattle.command_set.specs.Journals.{run_of}
 use Rattle.toast_core.specs.State.{seat_of}
 use Rattle.toast_core.specs.Stands.{is_past_moment}
+use Rattle.command_set.specs.Plain.{nth}
 use Rattle.session_shell.specs.declared.hub.Turn.{Turn}
 use Rattle.session_shell.specs.declared.hub.Turn.TheVariants as turns
 use Rattle.session_shell.specs.Hubs.{HubState, commands_of}
@@ -20,18 +21,18 @@ turns_left turns.More n = suc n
 turns_left turns.Nothing n = 0
 turns_left (turns.Ended entry) n = 0
 
--- a place in a list has an element
-record There {X : Type 0} (xs : List X) (i : ℕ) : Type 0 where
+-- a place in a list, counted from 1, has an element
+record There {X : Type 0} (xs : List X) (n : ℕ) : Type 0 where
   x : X
-  is : slice_get xs i ≡ Some x
+  is : nth xs n ≡ Some x
 
-there_at : {X : Type 0} (xs : List X) (i : ℕ) → i < length xs → There xs i
+there_at : {X : Type 0} (xs : List X) (i : ℕ) → i < length xs → There xs (suc i)
 there_at [] i h = absurd (omega (arith, h))
 there_at (x ∷ xs) zero h = record { x = x; is = refl }
 there_at (x ∷ xs) (suc i) h = let t = there_at xs i (omega (arith, h)) in record { x = t.x; is = t.is }
 
-there_next : (script : Script) (s b : ℕ) → b < length (commands_of script s) → There (commands_of script s) (b + 1 - 1)
-there_next script s b h = there_at (commands_of script s) (b + 1 - 1) (omega (arith, h))
+there_next : (script : Script) (s b : ℕ) → b < length (commands_of script s) → There (commands_of script s) (b + 1)
+there_next script s b h = let next : suc b ≡ b + 1 = omega arith in subst (There (commands_of script s)) next (there_at (commands_of script s) b h)
 
 -- what one turn makes of its session's place
 pub record Facts (script : Script) (s : ℕ) (old new : Place) (end : End) : Type 0 where

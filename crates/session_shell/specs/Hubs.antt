@@ -2,6 +2,7 @@
 use Rattle.std.specs.Prelude.{◌≡◌, ℕ, ◌-◌, ◌*◌, ◌≤◌, Bool, true, false, ◌&&◌, List, [], Option, Some, None, length, map as mapped, slice_get, slice_index_or, ◌==◌, if◌then◌else◌}
 use Rattle.std.specs.List.{sum_by}
 use Rattle.std.specs.Option.{option_map, option_map_or, unwrap_or}
+use Rattle.command_set.specs.Plain.{nth}
 use Rattle.command_set.specs.Replies.{is_granted}
 use Rattle.command_set.specs.declared.journal.Line.{Line}
 use Rattle.command_set.specs.declared.journal.Run.{Run}
@@ -57,7 +58,7 @@ pub record IsScript (script : Script) : Type 0 where
 
 -- the commands of a session, from 1
 abbrev pub commands_of : Script → ℕ → List Command
-commands_of script s = unwrap_or (slice_get script.sessions (s - 1)) []
+commands_of script s = unwrap_or (nth script.sessions s) []
 
 -- whether a command answers with what it reads
 abbrev pub is_read : Command → Bool

@@ -10,6 +10,7 @@ ghost use Rattle.session_shell.specs.Lines.{no_line, with_reply};
 
 use crate::print::text_of;
 use crate::steps::{First, Later, first_step, later_step};
+use command_set::values::nth;
 use command_set::{Command, Item, JournalEntry, Kind, Reply, Script};
 use std::alloc::{AllocError, Global};
 use std::marker::Model;
@@ -394,11 +395,10 @@ fn count_commands(script: &Script) -> usize
 
 // The command after those that a session has begun.
 fn next_command(script: &Script, session: u16, begun: u32) -> Option<&Command>
-    requires { 1 ≤ session }
     ensures { option_copied result ≡ command_at script.now session (begun + 1) }
 {
-    let commands = script.sessions.get((session - 1) as usize)?;
-    commands.get(begun as usize)
+    let commands = nth(script.sessions.as_slice(), usize::from(session))?;
+    nth(commands.as_slice(), begun as usize + 1)
 }
 
 // Records the first entry of a command, and its line.

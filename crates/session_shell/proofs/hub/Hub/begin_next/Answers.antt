@@ -21,9 +21,6 @@ index-requires c =
     let q = rw (← c.self.view_is) at c.requires in
     omega (arith, q.session.from_one, q.session.within, c.self.invariant.0.places, c.self.inside.progress.ok.0)
 
-pub next_command-requires : goal.next_command-requires
-next_command-requires c = c.requires.session.from_one
-
 pub same-self : goal.same-self
 same-self c = search rules
 

@@ -1,0 +1,4 @@
+pub mod Sets
+pub mod Streams
+pub mod Laws
+pub mod Ranges

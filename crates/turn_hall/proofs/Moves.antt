@@ -54,6 +54,14 @@ value_or a (x ∷ xs) = x.1
 off : {A : Type 0} → false ≡ true → A
 off e = absurd (cc)
 
+not_true : (b : Bool) → (b ≡ true → ⊥) → b ≡ false
+not_true true h = absurd (h refl)
+not_true false h = refl
+
+by_turn : {A : Type 0} (P : A → Type 0) (a c : A) (b : Bool) → (b ≡ true → P a) → (b ≡ false → P c) → P (if b then a else c)
+by_turn P a c true h k = h refl
+by_turn P a c false h k = k refl
+
 module _ {V F : Type 0} (entries : V → List Entry) (fixed : V → F) (first : V) where
   abbrev Rule : State (Option V) (View F) → Type 0
   Rule = Turns entries fixed first
@@ -138,35 +146,40 @@ module _ {V F : Type 0} (entries : V → List Entry) (fixed : V → F) (first : 
       one_apart zero (suc j) v w ne e e' p a b = some-ne-none w (sym e')
       one_apart (suc i) j v w ne e e' p a b = some-ne-none v (sym e)
 
-  -- what a try at the words ws comes to
-  abbrev TryAt : State (Option V) (View F) → ℕ → View F → List ℕ → Type 0
-  TryAt s me v ws = (w : View F) × (a : Act (Option V)) × Valid s.homes [] a
-      × Rule record { words = slice_set ws 0 (bit_or (slice_index ws 0) 1); homes = homes_after s.homes [] a; views = set s.views me w }
-      × Tries entries fixed (step 1 0 1 0 none) (v, []) (slice_index ws 0) (w, carried_after [] a)
+  -- what a try at the words ws comes to, by a seat that carries c
+  abbrev TryAt : State (Option V) (View F) → ℕ → View F → List (ℕ × Option V) → List ℕ → Type 0
+  TryAt s me v c ws = (w : View F) × (a : Act (Option V)) × Valid s.homes c a
+      × Rule record { words = slice_set ws 0 (bit_or (slice_index ws 0) 1); homes = homes_after s.homes c a; views = set s.views me w }
+      × Tries entries fixed (step 1 0 1 0 none) (v, c) (slice_index ws 0) (w, carried_after c a)
 
-  try_by : (s : State (Option V) (View F)) (r : Rule s) (me : ℕ) (v : View F) → v.turn ≡ false → get_elem? s.views me ≡ some v
-      → (holder : Option ℕ) → r.holder ≡ holder → TryAt s me v (turn_word (length r.history) holder ∷ [])
-  try_by s r me v idle at (Some seat) is =
+  try_by : (s : State (Option V) (View F)) (r : Rule s) (me : ℕ) (v : View F) (c : List (ℕ × Option V)) → get_elem? s.views me ≡ some v
+      → (holder : Option ℕ) → r.holder ≡ holder → TryAt s me v c (turn_word (length r.history) holder ∷ [])
+  try_by s r me v c at (Some seat) is =
       let n : ℕ = length r.history in
       let w : View F = missed v (2 * n + 1) in
       let k = r.fits me v at in
+      let mine : (p : ℕ) → Contains w.mine p → Contains v.mine p = λ p. by_turn (λ (x : View F). Contains x.mine p → Contains v.mine p) v (record v { tries = v.tries ++ (2 * n + 1) ∷ []; heard = [] }) v.turn (λ turn a. a) (λ idle a. a) in
       let same_word : 2 * n + 1 ≡ bit_or (2 * n + 1) 1 = omega (arith, bit_or-one (2 * n + 1)) in (
         w,
         keeps,
         tt,
         subst (λ (ws : List ℕ). Rule record { words = ws; homes = s.homes; views = set s.views me w }) (ap (λ h. turn_word n h ∷ []) is ∙ ap (λ (x : ℕ). x ∷ []) same_word)
-            (step_keeps s r me w s.homes r.history r.holder r.short r.home (out_stays s r me v w at (λ t. t))
-            record { seen = k.seen; heard = (r.history, refl); shorter = omega arith; places = k.places; same = k.same; turn = λ t. off (sym idle ∙ t) }
+            (step_keeps s r me w s.homes r.history r.holder r.short r.home
+            (out_stays s r me v w at (λ held. ap (λ (b : Bool). (if b then v else record v { tries = v.tries ++ (2 * n + 1) ∷ []; heard = [] }).turn) held ∙ held))
+            (by_turn (Fits r.history (fixed first) r.holder me) v (record v { tries = v.tries ++ (2 * n + 1) ∷ []; heard = [] }) v.turn
+            (λ held. k)
+            (λ idle. record { seen = k.seen; heard = (r.history, refl); shorter = omega arith; places = k.places; same = k.same; turn = k.turn }))
             (λ j u _ e. r.fits j u e)
-            (λ j u ne e p a b. r.apart me j v u (λ q. ne (sym q)) at e p a b)),
+            (λ j u ne e p a b. r.apart me j v u (λ q. ne (sym q)) at e p (mine p a) b)),
         ((λ odd. (refl, refl)), (λ even. absurd (omega arith))),
       )
-  try_by s r me v idle at None is =
+  try_by s r me v c at None is =
       let home = r.home is in
       let x : V = home.0 in
       let n : ℕ = length r.history in
       let w : View F = won v (2 * n) (entries x) in
       let k = r.fits me v at in
+      let idle : v.turn ≡ false = not_true v.turn (λ held. let h = (k.turn held).0 in absurd (cc)) in
       let begun : IsPrefix v.seen (entries x) = (k.seen.0, k.seen.1 ∙ sym home.2) in
       let odd_word : 2 * n + 1 ≡ bit_or (2 * n) 1 = omega (arith, bit_or-one (2 * n)) in
       let taken : Homes V = set s.homes 0 none in (
@@ -187,11 +200,11 @@ module _ {V F : Type 0} (entries : V → List Entry) (fixed : V → F) (first : 
             }
             (λ j u _ e. let o = r.fits j u e in record { seen = o.seen; heard = o.heard; shorter = o.shorter; places = o.places; same = o.same; turn = λ t. let h = (o.turn t).0 in absurd (cc) })
             (λ j u ne e p a b. r.apart me j v u (λ q. ne (sym q)) at e p a b)),
-        ((λ odd. absurd (omega arith)), (λ even. (x, refl, refl, begun, (λ f e. k.same f e ∙ sym home.3)))),
+        ((λ odd. absurd (omega arith)), (λ even. (idle, x, refl, refl, begun, (λ f e. k.same f e ∙ sym home.3)))),
       )
 
-  tries : (id : ℕ) (v : View F) → v.turn ≡ false → Allows Rule 1 id (v, []) 0 (λ n. bit_or n 1) (Tries entries fixed (step 1 0 1 0 none) (v, []))
-  tries id v idle s r one at small = subst (TryAt s id v) (sym r.words) (try_by s r id v idle at r.holder refl)
+  tries : (id : ℕ) (v : View F) (c : List (ℕ × Option V)) → Allows Rule 1 id (v, c) 0 (λ n. bit_or n 1) (Tries entries fixed (step 1 0 1 0 none) (v, c))
+  tries id v c s r one at small = subst (TryAt s id v c) (sym r.words) (try_by s r id v c at r.holder refl)
 
   -- what a release of the value x comes to
   abbrev ReleaseAt : State (Option V) (View F) → ℕ → View F → V → ℕ → List ℕ → Type 0
@@ -251,11 +264,8 @@ module _ {V F : Type 0} (entries : V → List Entry) (fixed : V → F) (first : 
       subst (λ (k : ℕ). ReleaseAt s id v x k s.words) (sym is) (release_by s r id v x turn knows extends short at s.words r.words (omega (arith, one)))
 
   -- the steps, at a seat as a call finds it
-  pub tries_at : (slots id : ℕ) (me : AtSeat) → slots ≡ 1 → Holds me → me.0.turn ≡ false → Allows Rule slots id me 0 (λ n. bit_or n 1) (Tries entries fixed (step slots 0 1 0 none) me)
-  tries_at slots id me one holds idle =
-      subst (λ (z : ℕ × List (ℕ × Option V)). Allows Rule z.0 id (me.0, z.1) 0 (λ n. bit_or n 1) (Tries entries fixed (step z.0 0 1 0 none) (me.0, z.1)))
-      (λ i. (sym one i, sym (no_slot me holds idle) i))
-      (tries id me.0 idle)
+  pub tries_at : (slots id : ℕ) (me : AtSeat) → slots ≡ 1 → Allows Rule slots id me 0 (λ n. bit_or n 1) (Tries entries fixed (step slots 0 1 0 none) me)
+  tries_at slots id me one = subst (λ (n : ℕ). Allows Rule n id me 0 (λ n. bit_or n 1) (Tries entries fixed (step n 0 1 0 none) me)) (sym one) (tries id me.0 me.1)
 
   pub releases_at : (slots id : ℕ) (old me : AtSeat) (y : Option V) (x : V) (n : ℕ) → slots ≡ 1 → old.1 ≡ (0, y) ∷ [] → me ≡ (old.0, (0, Some x) ∷ rest old.1) → n ≡ length (entries x) → n < 2 ^ 62
       → old.0.turn ≡ true → old.0.fixed ≡ Some (fixed x) → Extends old.0.seen (entries x)

@@ -62,13 +62,15 @@ module _ {F : Type 0} where
   abbrev pub first_pass : HallModel F → List Entry → PassModel F
   first_pass hall history = record { hall = hall.table; turn = false; seen = history; mine = []; fixed = Some hall.fixed; tries = [] }
 
-  -- one try was made, which found the value away; the pass is otherwise as before
+  -- one try was made, which found the value away: a pass that holds the value stays as it is, and any other is so but for the try
   abbrev pub Missed : PassModel F → PassModel F → Type 0
-  Missed old new = (word : ℕ) × (word % 2 ≡ 1) × (new ≡ record old { tries = old.tries ++ word ∷ [] })
+  Missed old new = (word : ℕ) × (word % 2 ≡ 1) × (new ≡ (if old.turn then old else record old { tries = old.tries ++ word ∷ [] }))
 
-  -- one try was made, which found the value at home: its history begins with all that the pass had seen, and has now been seen
+  -- one try of a pass that does not hold the value was made, which found it at home: its history begins with all that the pass had seen, and has now been seen
   abbrev pub Won : PassModel F → List Entry → PassModel F → Type 0
-  Won old history new = IsPrefix old.seen history × ((word : ℕ) × (word % 2 ≡ 0) × (new ≡ record old { turn = true; seen = history; tries = old.tries ++ word ∷ [] }))
+  Won old history new =
+      (old.turn ≡ false) × IsPrefix old.seen history
+      × ((word : ℕ) × (word % 2 ≡ 0) × (new ≡ record old { turn = true; seen = history; tries = old.tries ++ word ∷ [] }))
 
   -- tries were made that found the value away, and then one that found it at home
   abbrev pub Took : PassModel F → List Entry → PassModel F → Type 0

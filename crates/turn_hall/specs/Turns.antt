@@ -27,9 +27,9 @@ module _ {F : Type 0} where
   abbrev pub onlooker : List Entry → F → View F
   onlooker history fixed = record { turn = false; seen = history; mine = []; fixed = Some fixed; tries = []; heard = [] }
 
-  -- after a try that found the value away
+  -- after a try that found the value away; where the seat has it itself, nothing changes
   abbrev pub missed : View F → ℕ → View F
-  missed v word = record v { tries = v.tries ++ word ∷ []; heard = [] }
+  missed v word = if v.turn then v else record v { tries = v.tries ++ word ∷ []; heard = [] }
 
   -- after a try that took the value
   abbrev pub won : View F → ℕ → List Entry → View F
@@ -102,9 +102,9 @@ module _ {V F : Type 0} (entries : V → List Entry) (fixed : V → F) where
     pub fits : (seat : ℕ) (v : View F) → get_elem? s.views seat ≡ some v → Fits history (fixed first) holder seat v
     pub apart : AreApart s.views
 
-  -- a try: an odd word is left as it was; at an even one the seat takes the value, whose history begins with all that the seat had seen
+  -- a try: an odd word is left as it was; at an even one the seat, which had no turn, takes the value, whose history begins with all that the seat had seen
   abbrev pub Tries : Step (Option V) → Me (Option V) (View F) → ℕ → Me (Option V) (View F) → Type 0
   Tries st me word me' =
       (word % 2 ≡ 1 → (me'.0 ≡ missed me.0 word) × (me'.1 ≡ me.1))
-      × (word % 2 ≡ 0 → (x : V) × (me'.0 ≡ won me.0 word (entries x)) × (me'.1 ≡ (0, Some x) ∷ me.1)
+      × (word % 2 ≡ 0 → (me.0.turn ≡ false) × (x : V) × (me'.0 ≡ won me.0 word (entries x)) × (me'.1 ≡ (0, Some x) ∷ me.1)
       × IsPrefix me.0.seen (entries x) × ((f : F) → me.0.fixed ≡ Some f → f ≡ fixed x))

@@ -63,9 +63,9 @@ impl<V: Counted> Hall<V> {
     }
 
     /// The value, if it is at home at the first step on the hall's word. This waits for nobody.
+    /// For a pass that holds the value there is none, and nothing changes.
     pub fn try_take(&self, pass: &mut Pass<V>) -> Option<V>
-        requires own { IsPassOf self.now pass.old }
-        requires idle { pass.old.turn ≡ false }
+        requires { IsPassOf self.now pass.old }
         ensures none { IfNone result (Missed pass.old pass.new) }
         ensures some { IfSome result (λ v. Won pass.old (V.entries v) pass.new) }
         ensures fixed { IfSome result (λ v. V.fixed v ≡ self.now.fixed) }

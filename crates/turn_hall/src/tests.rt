@@ -57,6 +57,7 @@ fn one_holds_the_value(rt: HostRuntime) -> Result<(), Fail> {
         panic!(rt; "the value is at home")
     };
     assert!(rt; hall.try_take(&mut other).is_none());
+    assert!(rt; hall.try_take(&mut pass).is_none());
     hall.give(&mut pass, log);
     let Some(log) = hall.try_take(&mut pass) else {
         panic!(rt; "the value is at home again")

@@ -1,0 +1,10 @@
+mod Lists
+mod UsedCells
+mod FreeCells
+mod Entries
+mod Links
+mod Sums
+mod Sweeps
+mod Added
+mod Consequences
+mod Held

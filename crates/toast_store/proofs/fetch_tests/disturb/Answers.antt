@@ -42,7 +42,7 @@ gathered_sorted : (page : ℕ) (slots : List (LinePointer Chunk)) (before after 
 gathered_sorted page slots before after is empty = subst (IsSorted tid_cmp) (sym (is ∙ ap (λ ts. ts ++ dead_tids page slots) empty)) (dead_tids_sorted page slots)
 
 pub prune_page-requires-clause-assigned : goal.prune_page-requires-clause-assigned
-prune_page-requires-clause-assigned g c = put_and_ended c.args.xacts.now c.args.store.now c.put.new.store c.end_chunk.new.store c.in_ok-tid.tid c.requires.next c.in_ok-tid.ensures.assigned c.requires.assigned c.end_chunk.ensures
+prune_page-requires-clause-assigned g c = put_and_ended c.args.xacts.now c.args.store.now c.put.new.store c.end_chunk.new.store c.in_ok-tid.tid c.requires.next c.in_ok-tid.ensures.assigned c.requires.assigned c.end_chunk.ensures.ended
 
 pub sweep_leaf-requires : goal.sweep_leaf-requires
 sweep_leaf-requires g c = gathered_sorted (Tid.page c.in_ok-tid.tid) (page_at c.prune_page.new.self.rel.pages (Tid.page c.in_ok-tid.tid)) _ _ c.in_ok-prune_page.ensures.gathered c.new-dead.ensures

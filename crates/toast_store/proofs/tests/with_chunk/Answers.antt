@@ -1,4 +1,4 @@
-use Rattle.std.proofs.Common.{sym, ap, ◌∙◌, subst, arith}
+use Rattle.std.proofs.Common.{[], ◌∷◌, sym, ap, ◌∙◌, subst, arith}
 use Rattle.xact_status.specs.Xacts.{IsAssigned}
 use Rattle.slot_page.proofs.Pages.{item_put}
 use Rattle.chunk_relation.specs.Relations.{AreAssigned}
@@ -19,4 +19,4 @@ pub returns-clause-assigned : goal.returns-clause-assigned
 returns-clause-assigned c = λ xacts next.
     let given : IsAssigned xacts 3 = record { from_first = omega arith; below_next = omega (arith, next) } in
     let before : AreAssigned xacts c.in_ok-store.store.rel.pages = subst (λ (s : Store). AreAssigned xacts s.rel.pages) (sym c.in_ok-store.ensures.empty) (assigned_none xacts) in
-    subst (λ (s : Store). AreAssigned xacts s.rel.pages) (sym c.in_ok-tid.ensures.put) (assigned_put xacts 39 _ c.in_ok-store.store.rel.pages before (new_assigned xacts 16384 0 3 _ given))
+    subst (λ (s : Store). AreAssigned xacts s.rel.pages) (sym c.in_ok-tid.ensures.put) (assigned_put xacts 39 _ c.in_ok-store.store.rel.pages before (new_assigned xacts 16384 0 3 (1 ∷ 2 ∷ 3 ∷ []) given))

@@ -8,3 +8,5 @@ pub mod Toast
 pub mod Readings
 pub mod Tells
 pub mod Records
+pub mod Tuples
+pub mod Stays

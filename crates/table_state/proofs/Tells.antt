@@ -27,6 +27,7 @@ use Rattle.table_state.specs.Holders.{holders_of, chunk_stamps}
 use Rattle.table_state.specs.Tables.{IsTable, row_in, stored_of}
 use Rattle.table_state.specs.LookUps.{FindsRow, IsFoundRow, no_rows}
 use Rattle.table_state.specs.Found.{TablesTell, row_read}
+use Rattle.table_state.proofs.Tuples.{cells_of_tuple}
 use Rattle.table_state.proofs.Places.{holder_is}
 
 -- ---- a table without a row
@@ -60,6 +61,7 @@ found counts table key (Some row) one finds =
 
 pub tables_tell : TablesTell
 tables_tell = record {
+  cells = cells_of_tuple;
   empty = empty;
   stored = λ number xacts snaps table is. record { each = λ tid version at. (is.tuples tid version at).stored };
   assigned = λ number xacts snaps table is. assigned_from xacts table.rows.pages is.given;

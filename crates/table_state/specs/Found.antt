@@ -1,11 +1,14 @@
 -- What the facts of a table tell a reader.
-use Rattle.std.specs.Prelude.{ℕ, ℤ, ◌≡◌, Bool, true, List, map, Option, Some, Contains}
+use Rattle.std.specs.Prelude.{ℕ, ℤ, ◌≡◌, ◌≤◌, Bool, true, List, length, map, Option, Some, Contains}
 use Rattle.std.specs.Option.{option_map}
 use Rattle.slot_page.specs.declared.line.Tid.{Tid}
 use Rattle.slot_page.specs.Pages.{item_in}
 use Rattle.external_pointer.specs.declared.external.Pointer.{Pointer}
 use Rattle.tuple_layout.specs.Places.{Row}
 use Rattle.tuple_layout.specs.Schemas.{TableSchema}
+use Rattle.tuple_layout.specs.Tuples.{HasTuple, tuple}
+use Rattle.tuple_layout.specs.declared.Storage.{Storage}
+use Rattle.tuple_layout.specs.declared.cell.Stored.{Stored}
 use Rattle.xact_status.specs.Versions.{is_current}
 use Rattle.xact_status.specs.Xacts.{Xacts}
 use Rattle.snapshot_registry.specs.Snapshots.{Snaps, sees_at}
@@ -18,6 +21,7 @@ use Rattle.table_rows.specs.Steps.{stamp_of}
 use Rattle.table_rows.specs.Worlds.{IsOne}
 use Rattle.table_state.specs.declared.table.Table.{Table}
 use Rattle.table_state.specs.declared.table.FoundRow.{FoundRow}
+use Rattle.table_state.specs.Cells.{cells_in}
 use Rattle.table_state.specs.Rows.{cell_value, pointers_in}
 use Rattle.table_state.specs.Tables.{AreStored, IsTable, cells_of, row_in}
 use Rattle.table_state.specs.LookUps.{FindsRow, no_rows}
@@ -29,6 +33,8 @@ row_read store row = map (cell_value store) row.stored.cells
 pub record TablesTell : Type 0 where
   -- a table without a row is one
   pub empty : (number : ℕ) (xacts : Xacts) (snaps : Snaps) (schema : TableSchema) → IsTable number xacts snaps (no_rows schema number)
+  -- the cells that are found in a row's tuple are the row's
+  pub cells : (schema : List Storage) (stored : Stored) → length schema ≤ 8 → HasTuple schema stored → cells_in schema (tuple schema stored) ≡ stored.cells
   -- what a look-up asks of a table
   pub stored : (number : ℕ) (xacts : Xacts) (snaps : Snaps) (table : Table) → IsTable number xacts snaps table → AreStored table
   pub assigned : (number : ℕ) (xacts : Xacts) (snaps : Snaps) (table : Table) → IsTable number xacts snaps table → AreAssigned xacts table.rows.pages

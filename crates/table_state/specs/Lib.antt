@@ -6,3 +6,4 @@ pub mod Events
 pub mod Laws
 pub mod LookUps
 pub mod Found
+pub mod Stays

@@ -3,6 +3,7 @@
 
 ghost use Rattle.table_state.specs.Found.{TablesTell};
 ghost use Rattle.table_state.specs.Laws.{ChunkStepsKeep, MomentsKeep, VacuumKeeps, VersionStepsKeep};
+ghost use Rattle.table_state.specs.Stays.{ValuesStay};
 
 /// A version step keeps the facts of its table, and each value that it drops has then ended for its
 /// transaction.
@@ -30,4 +31,10 @@ pub fn moments_keep()
 /// its pointers has its value. A table without a row has these facts.
 pub fn tables_tell()
     ensures { TablesTell }
+{}
+
+/// A change of the values out of line leaves the bytes of each value that it isn't about, and the rows
+/// whose values it leaves.
+pub fn values_stay()
+    ensures { ValuesStay }
 {}

@@ -10,3 +10,4 @@ pub mod Tells
 pub mod Records
 pub mod Tuples
 pub mod Stays
+pub mod Others

@@ -3,7 +3,7 @@
 
 ghost use Rattle.table_state.specs.Found.{TablesTell};
 ghost use Rattle.table_state.specs.Laws.{ChunkStepsKeep, MomentsKeep, VacuumKeeps, VersionStepsKeep};
-ghost use Rattle.table_state.specs.Stays.{ValuesStay};
+ghost use Rattle.table_state.specs.Stays.{EndedStays, UnheldStays, ValuesStay};
 
 /// A version step keeps the facts of its table, and each value that it drops has then ended for its
 /// transaction.
@@ -37,4 +37,15 @@ pub fn tables_tell()
 /// whose values it leaves.
 pub fn values_stay()
     ensures { ValuesStay }
+{}
+
+/// What others do leaves an id in hand without a protected version that has it.
+pub fn unheld_stays()
+    ensures { UnheldStays }
+{}
+
+/// The version steps of others leave a dropped value one that each protected version with it has ended
+/// for the transaction that dropped it.
+pub fn ended_stays()
+    ensures { EndedStays }
 {}

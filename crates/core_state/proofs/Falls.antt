@@ -22,7 +22,7 @@ use Rattle.lock_table.specs.declared.held.SessionLocks.{SessionLocks}
 use Rattle.toast_store.specs.Saves.{logged}
 use Rattle.toast_store.specs.Stores.{Store}
 use Rattle.command_set.specs.Answers.{failed_session}
-use Rattle.command_set.specs.Changes.{is_named}
+use Rattle.command_set.specs.Changes.{is_named, outcome}
 use Rattle.command_set.specs.Plain.{with_session}
 use Rattle.command_set.specs.Replies.{changed}
 use Rattle.command_set.specs.declared.Level.{Level}
@@ -50,7 +50,7 @@ use Rattle.core_state.specs.Coming.{change_left, change_to, changed_row, old_lef
 use Rattle.core_state.specs.Facts.{IsSound}
 use Rattle.core_state.specs.Lines.{after_failing, after_giving_up, failed_state, once_aborted, once_ended}
 use Rattle.core_state.specs.Moves.{Falls, Runs}
-use Rattle.core_state.specs.Stands.{CopyStands, HasCopy, SessionStands, Stands, TransactionStands, change_logged, change_of, coming, left_by_changes, logged_changes, pending_of}
+use Rattle.core_state.specs.Stands.{CopyStands, HasCopy, SessionStands, Stands, TransactionStands, change_logged, change_of, coming, logged_changes, pending_of}
 use Rattle.core_state.specs.State.{CoreState, IsSession, handle_of, job_table, schemas_of, seat_of, snapshot_of, table_at, uses_of, xid_of}
 use Rattle.core_state.specs.Views.{held_value, in_sight, registered, row_at}
 use Rattle.core_state.specs.declared.seat.Handle.{Handle}
@@ -174,8 +174,8 @@ transaction_stays c new left later s held latest other level t leaves unpins the
       level_is = old.level_is;
       copy = copy_stays c.xacts new c.snaps left (snapshot_of other.state) c.tables later s t.base t.since leaves unpins there back old.copy;
       changes = old.changes ∙ sym (ap (λ (changes : List Change). changes ++ coming later other.job) logged ∙ ap (λ (changes : List Change). logged_changes c.tables c.log.entries (xid_of other.state) ++ changes) more);
-      now = λ p. old.now p ∙ sym (ap (λ (changes : List Change). unwrap_or (left_by_changes changes p) (row_at later (in_sight new other.state) p)) more
-          ∙ ap (λ (row : Option Row). unwrap_or (left_by_changes (coming c.tables other.job) p) row) (row_unpins c.tables later s (in_sight new other.state) p unpins
+      now = λ p. old.now p ∙ sym (ap (λ (changes : List Change). unwrap_or (outcome changes p) (row_at later (in_sight new other.state) p)) more
+          ∙ ap (λ (row : Option Row). unwrap_or (outcome (coming c.tables other.job) p) row) (row_unpins c.tables later s (in_sight new other.state) p unpins
           ∙ rows_by c.tables (in_sight c.xacts other.state) (in_sight new other.state) p (leaves.current (xid_of other.state) (table_at c.tables p.table).rows.pages p.key)));
       used = old.used;
       claimed = old.claimed;

@@ -10,6 +10,7 @@ use Rattle.snapshot_registry.specs.Snapshots.{Snaps}
 use Rattle.change_log.specs.declared.entry.LogEntry.{LogEntry}
 use Rattle.lock_table.specs.Locks.{held_by}
 use Rattle.lock_table.specs.declared.held.SessionLocks.{SessionLocks}
+use Rattle.command_set.specs.Changes.{outcome}
 use Rattle.command_set.specs.declared.Command.{Command}
 use Rattle.command_set.specs.declared.Level.{Level}
 use Rattle.command_set.specs.declared.Reply.{Reply}
@@ -23,7 +24,7 @@ use Rattle.core_state.proofs.Lists.{read_there}
 use Rattle.core_state.proofs.Seats.{number_at, place_within, seat_there}
 use Rattle.core_state.specs.Lines.{after_submit, seated}
 use Rattle.core_state.specs.Moves.{StandsOn}
-use Rattle.core_state.specs.Stands.{SessionStands, Stands, TransactionStands, coming, left_by_changes, logged_changes, pending_of}
+use Rattle.core_state.specs.Stands.{SessionStands, Stands, TransactionStands, coming, logged_changes, pending_of}
 use Rattle.core_state.specs.State.{CoreState, IsSession, seat_of, xid_of}
 use Rattle.core_state.specs.Views.{in_sight, row_at}
 use Rattle.core_state.specs.declared.seat.Job.{Job}
@@ -41,7 +42,7 @@ transaction_by xacts snaps held log tables latest seat level t job same old = re
   level_is = old.level_is;
   copy = old.copy;
   changes = old.changes ∙ ap (λ (more : List Change). logged_changes tables log (xid_of seat.state) ++ more) (sym same);
-  now = λ p. old.now p ∙ ap (λ (more : List Change). unwrap_or (left_by_changes more p) (row_at tables (in_sight xacts seat.state) p)) (sym same);
+  now = λ p. old.now p ∙ ap (λ (more : List Change). unwrap_or (outcome more p) (row_at tables (in_sight xacts seat.state) p)) (sym same);
   used = old.used;
   claimed = old.claimed;
   handles = old.handles;

@@ -91,10 +91,6 @@ cells_or_none (Some stored) = stored.cells
 abbrev pub cells_left : WriteStage → List Cell
 cells_left stage = cells_or_none (new_left stage)
 
--- the pointers of the old one
-abbrev pub old_pointers : WriteStage → List Pointer
-old_pointers stage = pointers_in (old_cells (old_left stage))
-
 -- the ids of pointers
 abbrev pub ids_of : List Pointer → List ℕ
 ids_of pointers = map (λ pointer. pointer.value_id) pointers

@@ -1,28 +1,35 @@
 -- One event of a session: the line of the table of events that is due, and what it answers.
-use Rattle.std.specs.Prelude.{List, Option, suc, true, ℕ, ℤ, ◌≡◌}
+use Rattle.std.specs.Option.{option_map_or}
+use Rattle.std.specs.Prelude.{List, None, Option, Some, if◌then◌else◌, suc, true, ℕ, ℤ, ◌≡◌}
 use Rattle.value_ids.specs.declared.fault.DrawFault.TheVariants.{NoValueId}
 use Rattle.toast_store.specs.Stores.{Store}
-use Rattle.command_set.specs.Replies.{is_granted}
+use Rattle.command_set.specs.Answers.{table_of}
+use Rattle.command_set.specs.Replies.{fails, is_granted}
 use Rattle.command_set.specs.declared.Command.{Command}
+use Rattle.command_set.specs.declared.Reply.{Reply}
 use Rattle.table_state.specs.declared.table.Table.{Table}
-use Rattle.read_steps.specs.Reads.{Reading, answer_of, read_left}
+use Rattle.read_steps.specs.Reads.{Reading, answer_of, cell_of, held_read, needs_store, read_left}
 use Rattle.read_steps.specs.declared.stage.ReadStep.{ReadStep}
 use Rattle.read_steps.specs.declared.wanted.Held.{Held}
-use Rattle.write_steps.specs.Steps.{IsWriteCause}
+use Rattle.write_steps.specs.Steps.{IsDrawnAt, IsWriteCause}
 use Rattle.write_steps.specs.Writes.{IsToastAt, Writing, answer_at, write_after}
 use Rattle.write_steps.specs.declared.stage.WriteStep.{WriteStep}
-use Rattle.core_state.specs.Begun.{begun}
+use Rattle.core_state.specs.Begun.{begun, held_in, held_size, inserted_row, keys_claimed, part_wanted, row_read, span_of, updated_row, write_begun}
 use Rattle.core_state.specs.Coming.{write_left}
-use Rattle.core_state.specs.Lines.{after_close, after_commit_of, after_failing, after_fetch_begun, after_giving_up, after_looking, after_open, after_over, after_read_begun, after_read_last, after_read_step, after_write_begun, after_write_last, after_write_step, parts_at}
-use Rattle.core_state.specs.State.{CoreState, seat_of, table_at}
+use Rattle.core_state.specs.Lines.{after_close, after_commit_of, after_failing, after_fetch_begun, after_giving_up, after_looking, after_open, after_over, after_read_begun, after_read_last, after_read_step, after_write_begun, after_write_last, after_write_step, failed_state, parts_at}
+use Rattle.core_state.specs.State.{CoreState, handle_of, is_open, is_past_moment, seat_of, table_at}
+use Rattle.core_state.specs.Views.{row_seen}
 use Rattle.core_state.specs.declared.advance.Advance.{Advance}
 use Rattle.core_state.specs.declared.seat.Handle.{Handle}
 use Rattle.core_state.specs.declared.seat.Job.{Job}
 use Rattle.core_state.specs.declared.seat.State.{State}
+use Rattle.command_set.specs.declared.Command.TheVariants as commands
 use Rattle.command_set.specs.declared.Reply.TheVariants as replies
 use Rattle.core_state.specs.declared.advance.Advance.TheVariants as advances
 use Rattle.core_state.specs.declared.seat.Job.TheVariants as jobs
+use Rattle.core_state.specs.declared.seat.State.TheVariants as states
 use Rattle.read_steps.specs.declared.stage.ReadStep.TheVariants as reads
+use Rattle.read_steps.specs.declared.wanted.Wanted.TheVariants as wanteds
 use Rattle.write_steps.specs.declared.stage.WriteStep.TheVariants as writes
 
 -- the lines that may fall at a command's moment
@@ -52,16 +59,52 @@ at_moment (WriteBegun t keys write) c s = after_write_begun c s t keys write
 at_moment (Opened t name held) c s = after_open c s t name held
 at_moment (Closed handle) c s = after_close c s handle
 
--- what is then under way, by what the moment answers: a command that goes on, by the job that was begun; one that was granted is over only where it has none
-abbrev pub IsJobDue : Job → Job → Advance → Type 0
-IsJobDue due job advances.Idle = ⊥
-IsJobDue due job advances.More = job ≡ due
-IsJobDue due job (advances.Done reply) = (job ≡ jobs.Idle) × (is_granted reply ≡ true → due ≡ jobs.Idle)
+-- a read that was begun; one that wants nothing of the store is over with its answer
+abbrev pub line_reading : ℕ → Reading → MomentLine
+line_reading t read = if needs_store read then ReadBegun t read else Looked t
 
-pub record IsMoment (old : CoreState) (s : ℕ) (command : Command) (new : CoreState) (advance : Advance) : Type 0 where
-  pub line : MomentLine
-  pub is : new ≡ at_moment line old s
-  pub job : IsJobDue (begun old s command) (seat_of new s).job advance
+-- the same of a read of a kept value, which uses no table
+abbrev pub line_fetching : State → ℕ → Reading → MomentLine
+line_fetching state t read = if needs_store read then FetchBegun t read else Over state
+
+-- the line of a granted command, by what it finds; upkeep is not among the commands yet
+abbrev pub line_granted : CoreState → ℕ → Command → MomentLine
+line_granted c s (commands.Begin level) = Over (states.Open level None None)
+line_granted c s commands.Commit = Committed
+line_granted c s commands.Rollback = if is_open (seat_of c s).state then GivenUp states.Outside else Over states.Outside
+line_granted c s (commands.Get t key) = option_map_or (λ old. line_reading t (row_read s wanteds.Row old)) (row_seen c s t key) (Looked t)
+line_granted c s (commands.Part t key column offset len) = option_map_or (λ old. line_reading t (row_read s (part_wanted old column offset len) old)) (row_seen c s t key) (Looked t)
+line_granted c s (commands.Open name t key column) = option_map_or (λ old. Opened t name (held_in (cell_of old.stored.cells column))) (row_seen c s t key) (Looked t)
+line_granted c s (commands.Fetch name offset len) =
+    let state = (seat_of c s).state in
+    option_map_or (λ handle. line_fetching state handle.table (held_read handle.held (span_of (held_size handle.held) offset len) s)) (handle_of (seat_of c s).handles name) (Over state)
+line_granted c s (commands.Close name) = option_map_or Closed (handle_of (seat_of c s).handles name) (Over (seat_of c s).state)
+line_granted c s (commands.Insert t key row) = WriteBegun t (keys_claimed (commands.Insert t key row)) (write_begun c s t None (Some (inserted_row key row)))
+line_granted c s (commands.Update t key sets) = option_map_or (λ old. WriteBegun t (keys_claimed (commands.Update t key sets)) (write_begun c s t (Some old) (Some (updated_row old.stored key sets)))) (row_seen c s t key) (Looked t)
+line_granted c s (commands.Rekey t from to sets) = option_map_or (λ old. WriteBegun t (keys_claimed (commands.Rekey t from to sets)) (write_begun c s t (Some old) (Some (updated_row old.stored to sets)))) (row_seen c s t from) (Looked t)
+line_granted c s (commands.Delete t key) = option_map_or (λ old. WriteBegun t (keys_claimed (commands.Delete t key)) (write_begun c s t (Some old) None)) (row_seen c s t key) (Looked t)
+line_granted c s command = Over (seat_of c s).state
+
+-- the line of a refusal that fails nothing: one that has looked into a table uses it, and a commit of a failed transaction leaves it
+abbrev pub line_spared : State → Option ℕ → Reply → MomentLine
+line_spared state table replies.RolledBack = Over states.Outside
+line_spared state (Some t) replies.Absent = Looked t
+line_spared state (Some t) replies.Null = Looked t
+line_spared state table reply = Over state
+
+-- and of any other: the transaction fails, if one is open
+abbrev pub line_refused : State → Option ℕ → Reply → MomentLine
+line_refused state table reply = if fails reply then GivenUp (failed_state state) else line_spared state table reply
+
+-- the line of a command's moment, by the reply that it answers there
+abbrev pub line_due : CoreState → ℕ → Command → Reply → MomentLine
+line_due c s command reply = if is_granted reply then line_granted c s command else line_refused (seat_of c s).state (table_of command) reply
+
+-- a moment: a command that goes on does so past it, and one that answers is over
+abbrev pub IsMoment : CoreState → ℕ → Command → CoreState → Advance → Type 0
+IsMoment old s command new advances.Idle = ⊥
+IsMoment old s command new advances.More = (new ≡ at_moment (line_granted old s command) old s) × (is_past_moment (seat_of new s).job ≡ true)
+IsMoment old s command new (advances.Done reply) = (new ≡ at_moment (line_due old s command reply) old s) × ((seat_of new s).job ≡ jobs.Idle)
 
 -- ---- a step of a read
 
@@ -95,6 +138,8 @@ pub record IsWriteOn (old : CoreState) (s t : ℕ) (write : Writing) (new : Core
   pub left : IsToastAt (table_at old.tables t).toast toast write.stage
   pub is : new ≡ write_on_by old s t write toast (write_told old t write)
   pub told : advance ≡ told_by_write (write_told old t write)
+  -- a draw finds a free id
+  pub drawn : IsDrawnAt (parts_at old t) write.stage
 
 -- a draw that is refused, since every id is in use, fails the transaction
 pub record IsDrawRefused (old : CoreState) (s t : ℕ) (write : Writing) (new : CoreState) : Type 0 where

@@ -4,10 +4,12 @@ use Rattle.std.specs.List.Sorted.{IsStrictlySortedBy}
 use Rattle.std.specs.Ordering.{nat_cmp}
 use Rattle.std.specs.Prelude.{Bool, Contains, IfSome, IsSome, List, None, Option, Some, [], count_by, false, length, map, nat_eq, option_map, option_to_list, slice_get, suc, sum_by, true, ℕ, ℤ, ⊤, ◌++◌, ◌-◌, ◌==◌, ◌∷◌, ◌≡◌, ◌≢◌, ◌≤◌, ◌⊎◌}
 use Rattle.external_pointer.specs.declared.external.Pointer.{Pointer}
+use Rattle.tuple_layout.specs.Schemas.{HasColumns}
 use Rattle.tuple_layout.specs.declared.Place.{Place}
 use Rattle.tuple_layout.specs.declared.Storage.{Storage}
 use Rattle.tuple_layout.specs.declared.Storage.TheVariants.{External}
 use Rattle.tuple_layout.specs.declared.cell.Cell.{Cell}
+use Rattle.tuple_layout.specs.declared.cell.Cell.TheVariants.{Out}
 use Rattle.tuple_layout.specs.declared.cell.Stored.{Stored}
 use Rattle.slot_page.specs.Pages.{item_in}
 use Rattle.slot_page.specs.declared.line.Tid.{Tid}
@@ -18,11 +20,12 @@ use Rattle.snapshot_registry.specs.Snapshots.{Snaps, holders_at, sees_at}
 use Rattle.snapshot_registry.specs.declared.Snapshot.{Snapshot}
 use Rattle.value_holders.specs.Holders.{AreEnded}
 use Rattle.value_holders.specs.Stamps.{IsOpenFor}
+use Rattle.row_versions.specs.Relations.{IsRelation}
 use Rattle.row_versions.specs.Versions.{version_stamp}
 use Rattle.row_versions.specs.declared.version.Version.{Version}
 use Rattle.chunk_index.specs.Leaves.{Leaf}
 use Rattle.chunk_index.specs.Pinned.{pin_of}
-use Rattle.value_ids.specs.Ids.{Pool}
+use Rattle.value_ids.specs.Ids.{IsPool, Pool}
 use Rattle.value_ids.specs.declared.pool.InHand.{InHand}
 use Rattle.change_log.specs.Logs.{LogState}
 use Rattle.change_log.specs.declared.entry.LogEntry.{LogEntry}
@@ -34,6 +37,7 @@ use Rattle.lock_table.specs.declared.lock.RowKey.{RowKey}
 use Rattle.lock_table.specs.declared.lock.TableLock.{TableLock}
 use Rattle.toast_store.specs.Fetches.{Fetching}
 use Rattle.toast_store.specs.Marks.{Marking}
+use Rattle.toast_store.specs.Stores.{IsStore}
 use Rattle.toast_store.specs.Walks.{Walking}
 use Rattle.toast_store.specs.declared.walk.WalkStage.{WalkStage}
 use Rattle.command_set.specs.Changes.{place}
@@ -44,14 +48,14 @@ use Rattle.table_state.specs.Holders.{holders_of}
 use Rattle.table_state.specs.Rows.{has_id, pointers_in}
 use Rattle.table_state.specs.Tables.{AreCellsOf, IsTable, cells_of, longest_value, toast_rel_of}
 use Rattle.table_state.specs.declared.table.Table.{Table}
-use Rattle.read_steps.specs.Reads.{CanRead, IsBatchKept, Reading, fetch_due, reply_of}
+use Rattle.read_steps.specs.Reads.{CanRead, IsBatchKept, Reading, cell_of, fetch_due, reply_of}
 use Rattle.read_steps.specs.declared.stage.ReadStage.{ReadStage}
 use Rattle.write_steps.specs.Standing.{IsWriteStage, WriteStands}
-use Rattle.write_steps.specs.Writes.{Writing, parts_of}
+use Rattle.write_steps.specs.Writes.{Writing, old_cells, parts_of}
 use Rattle.write_steps.specs.declared.stage.OldRow.{OldRow}
 use Rattle.write_steps.specs.declared.stage.WriteStage.{WriteStage}
 use Rattle.core_state.specs.Begun.{held_size}
-use Rattle.core_state.specs.Coming.{cells_left, id_drawn, ids_drawn, is_elsewhere, keys_left, new_left, old_left, old_pointers, to_drop, to_push, xid_logged}
+use Rattle.core_state.specs.Coming.{cells_left, id_drawn, ids_drawn, is_elsewhere, keys_left, new_left, old_left, to_drop, to_push, xid_logged}
 use Rattle.core_state.specs.Commands.{IsFitting}
 use Rattle.core_state.specs.State.{CoreState, IsTableOf, is_open, is_repeatable, schemas_of, seat_of, snapshot_of, table_at, uses_of, xid_of}
 use Rattle.core_state.specs.Views.{registered}
@@ -140,11 +144,11 @@ pub record KnowsRows (xacts : Xacts) (table : Table) (write : Writing) : Type 0 
       → (version.key ≡ row.stored.key) × (cells_of table version ≡ row.stored.cells) × IsOpenFor xacts write.owner.xid (version_stamp version)
   pub alone : (new : Stored) → new_left write.stage ≡ Some new → is_elsewhere (old_left write.stage) new.key ≡ true → tuple_in (counts_for xacts (Some write.owner.xid)) table.rows.pages new.key ≡ None
 
--- the new row has what its columns may have, and each pointer in it was saved for it or is the old row's; no two have one id
+-- the new row has what its columns may have, and each pointer in it was saved for it or is the old row's in the same column; no two have one id
 pub record HasNewRow (t : ℕ) (storages : List Storage) (stage : WriteStage) : Type 0 where
   pub cells : AreCellsOf (toast_rel_of t) storages (cells_left stage)
   pub pushed : (column : ℕ) → Contains (to_push stage) column → slice_get storages (column - 1) ≡ Some External
-  pub kept : (pointer : Pointer) → Contains (pointers_in (cells_left stage)) pointer → Contains (ids_drawn stage) pointer.value_id ⊎ Contains (old_pointers stage) pointer
+  pub kept : (column : ℕ) (pointer : Pointer) → cell_of (cells_left stage) column ≡ Out pointer → Contains (ids_drawn stage) pointer.value_id ⊎ (cell_of (old_cells (old_left stage)) column ≡ Out pointer)
   pub distinct : IsDistinct nat_eq (option_to_list (id_drawn stage) ++ ids_in (cells_left stage))
 
 -- no version that must be kept has the id of a value that the write has saved or is saving
@@ -347,3 +351,16 @@ pub record IsSound (c : CoreState) : Type 0 where
   pub hands : AreInHand c.ids.in_hand
   pub touched : AreTouched c.xacts c.locks c.tables
   pub log : LogIsSound c.xacts c.locks c.log.entries c.tables
+
+-- ---- the parts
+
+-- what the types of a table's parts tell of it
+pub record IsTableMade (table : Table) : Type 0 where
+  pub columns : HasColumns (length table.rows.schema.storages)
+  pub rows : IsRelation table.rows
+  pub toast : IsStore table.toast
+
+-- what the types of a core's parts tell of them: the premise that a line takes beside `IsSound`
+pub record PartsAreSound (c : CoreState) : Type 0 where
+  pub ids : IsPool c.ids
+  pub tables : (table : Table) → Contains c.tables table → IsTableMade table

@@ -7,7 +7,7 @@ use Rattle.command_set.specs.declared.Command.{Command}
 use Rattle.command_set.specs.declared.Reply.{Reply}
 use Rattle.command_set.specs.declared.state.Plain.{Plain}
 use Rattle.core_state.specs.Stands.{Stands}
-use Rattle.core_state.specs.State.{CoreState, schemas_of, seat_of}
+use Rattle.core_state.specs.State.{CoreState, is_past_moment, schemas_of, seat_of}
 use Rattle.core_state.specs.declared.advance.Advance.{Advance}
 use Rattle.core_state.specs.declared.advance.Under.{Under}
 use Rattle.core_state.specs.declared.seat.Job.{Job}
@@ -15,13 +15,6 @@ use Rattle.command_set.specs.declared.Reply.TheVariants as replies
 use Rattle.core_state.specs.declared.advance.Advance.TheVariants as advances
 use Rattle.core_state.specs.declared.advance.Under.TheVariants as under
 use Rattle.core_state.specs.declared.seat.Job.TheVariants as jobs
-
--- whether a job has passed its moment
-abbrev pub is_past_moment : Job → Bool
-is_past_moment jobs.Idle = false
-is_past_moment (jobs.Submitted command) = false
-is_past_moment (jobs.Reading table snapshot read) = true
-is_past_moment (jobs.Writing table write) = true
 
 -- what the moment of a command says of its reply: that is it, and the command is over; or it is granted, and the command, a data command, goes on
 abbrev pub Says : Command → Job → Advance → Reply → Type 0

@@ -1,9 +1,9 @@
 -- How a core stands for a state of the plain store.
 use Rattle.std.specs.List.{filter_map, list_any}
-use Rattle.std.specs.Option.{option_or, unwrap_or}
+use Rattle.std.specs.Option.{unwrap_or}
 use Rattle.std.specs.Ordering.{int_cmp, is_eq}
 use Rattle.std.specs.Prelude.{List, None, Option, Some, [], if◌then◌else◌, length, map, option_map, option_to_list, slice_get, suc, ℕ, ⊤, ◌++◌, ◌==◌, ◌∷◌, ◌≡◌}
-use Rattle.tuple_layout.specs.Places.{Row, Rows, same_place}
+use Rattle.tuple_layout.specs.Places.{Row, Rows}
 use Rattle.tuple_layout.specs.declared.Place.{Place}
 use Rattle.tuple_layout.specs.declared.cell.Cell.{Cell}
 use Rattle.xact_status.specs.Xacts.{Xacts, is_committed}
@@ -14,7 +14,7 @@ use Rattle.lock_table.specs.Held.{holds_row, holds_table}
 use Rattle.lock_table.specs.Locks.{held_by}
 use Rattle.lock_table.specs.declared.held.SessionLocks.{SessionLocks}
 use Rattle.lock_table.specs.declared.lock.LockMode.TheVariants.{Use}
-use Rattle.command_set.specs.Changes.{fold_changes, is_named, keys_of, place}
+use Rattle.command_set.specs.Changes.{fold_changes, is_named, keys_of, outcome}
 use Rattle.command_set.specs.declared.Level.{Level}
 use Rattle.command_set.specs.declared.Reply.{Reply}
 use Rattle.command_set.specs.declared.state.Change.{Change}
@@ -75,17 +75,6 @@ coming tables (jobs.Writing t write) = option_to_list (change_left t (table_at t
 abbrev pub changes_in : List Table → List LogEntry → Seat → List Change
 changes_in tables log seat = logged_changes tables log (xid_of seat.state) ++ coming tables seat.job
 
--- what changes leave at a place, if they name it: a row, or none
-abbrev pub left_by_change : Change → Place → Option (Option Row)
-left_by_change (Insert t key row) p = if same_place p (place t key) then Some (Some row) else None
-left_by_change (Update t key row) p = if same_place p (place t key) then Some (Some row) else None
-left_by_change (Move t from to row) p = if same_place p (place t to) then Some (Some row) else (if same_place p (place t from) then Some None else None)
-left_by_change (Remove t key) p = if same_place p (place t key) then Some None else None
-
-abbrev pub left_by_changes : List Change → Place → Option (Option Row)
-left_by_changes [] p = None
-left_by_changes (change ∷ changes) p = option_or (left_by_changes changes p) (left_by_change change p)
-
 -- ---- a session
 
 -- a repeatable read transaction's copy is what its snapshot shows, and a place of it has changed since exactly where the version that it sees there has an end that has committed
@@ -106,7 +95,7 @@ pub record TransactionStands (xacts : Xacts) (snaps : Snaps) (held : SessionLock
   pub copy : CopyStands xacts tables (registered snaps (snapshot_of seat.state)) t.base t.since
   pub changes : t.changes ≡ changes_in tables log seat
   -- what it has now: the rows that are there for its transaction, and the change that is still to come
-  pub now : (p : Place) → map.get (fold_changes t.changes latest) p ≡ unwrap_or (left_by_changes (coming tables seat.job) p) (row_at tables (in_sight xacts seat.state) p)
+  pub now : (p : Place) → map.get (fold_changes t.changes latest) p ≡ unwrap_or (outcome (coming tables seat.job) p) (row_at tables (in_sight xacts seat.state) p)
   pub used : (table : ℕ) → list_any (λ used. used == table) t.used ≡ holds_table held.tables (record { table = table; mode = Use })
   pub claimed : (p : Place) → is_named (keys_of t.changes) p ≡ holds_row held.rows (record { table = p.table; key = p.key })
   pub handles : (name : ℕ) → map.get t.handles name ≡ option_map (λ (handle : Handle). held_value tables handle.table handle.held) (handle_of seat.handles name)

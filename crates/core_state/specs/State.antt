@@ -101,6 +101,13 @@ job_table (jobs.Submitted command) = None
 job_table (jobs.Reading table snapshot read) = Some table
 job_table (jobs.Writing table write) = Some table
 
+-- whether a job has passed its moment
+abbrev pub is_past_moment : Job → Bool
+is_past_moment jobs.Idle = false
+is_past_moment (jobs.Submitted command) = false
+is_past_moment (jobs.Reading table snapshot read) = true
+is_past_moment (jobs.Writing table write) = true
+
 -- every use of a snapshot that a session makes, each as often as it makes it: its transaction's, its job's and its handles'
 abbrev pub uses_of : Seat → List ℕ
 uses_of seat = option_to_list (snapshot_of seat.state) ++ (option_to_list (job_snapshot seat.job) ++ map (λ handle. handle.snapshot) seat.handles)

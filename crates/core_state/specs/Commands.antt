@@ -1,6 +1,8 @@
 -- The commands that a core with these tables takes.
 use Rattle.std.specs.List.{IsDistinct}
 use Rattle.std.specs.Option.{ForSome}
+use Rattle.std.specs.Int.{w64}
+use Rattle.std.specs.Int.RustNames.{FitsSigned}
 use Rattle.std.specs.Prelude.{Contains, List, Option, length, map, nat_eq, ℕ, ⊤, ◌≡◌, ◌≤◌}
 use Rattle.tuple_layout.specs.Places.{Row}
 use Rattle.tuple_layout.specs.Schemas.{TableSchema}
@@ -40,7 +42,7 @@ pub record AreSetsOf (schemas : List TableSchema) (t : ℕ) (sets : List Set) : 
   pub values : (set : Set) → Contains sets set → IsValue set.value
   pub once : IsDistinct nat_eq (map (λ set. set.column) sets)
 
--- upkeep is not built
+-- upkeep is not built; a key that is to be new is a number of 64 bits
 abbrev pub IsFitting : List TableSchema → Command → Type 0
 IsFitting schemas (commands.Begin level) = ⊤
 IsFitting schemas commands.Commit = ⊤
@@ -50,8 +52,8 @@ IsFitting schemas (commands.Part t key column offset len) = IsColumnIn schemas t
 IsFitting schemas (commands.Open name t key column) = IsColumnIn schemas t column
 IsFitting schemas (commands.Fetch name offset len) = ⊤
 IsFitting schemas (commands.Close name) = ⊤
-IsFitting schemas (commands.Insert t key row) = IsRowOf schemas t row
+IsFitting schemas (commands.Insert t key row) = IsRowOf schemas t row × FitsSigned w64 key
 IsFitting schemas (commands.Update t key sets) = AreSetsOf schemas t sets
 IsFitting schemas (commands.Delete t key) = IsTableIn schemas t
-IsFitting schemas (commands.Rekey t from to sets) = AreSetsOf schemas t sets
+IsFitting schemas (commands.Rekey t from to sets) = AreSetsOf schemas t sets × FitsSigned w64 to
 IsFitting schemas command = ⊥

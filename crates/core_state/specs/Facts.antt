@@ -1,4 +1,6 @@
 -- What is true of every core, without any journal: the fact of its type. Each fact names the parts that it rests on, so that an event which leaves these owes nothing.
+use Rattle.std.specs.Int.{w64}
+use Rattle.std.specs.Int.RustNames.{FitsSigned}
 use Rattle.std.specs.List.{IsDistinct}
 use Rattle.std.specs.List.Sorted.{IsStrictlySortedBy}
 use Rattle.std.specs.Ordering.{nat_cmp}
@@ -144,8 +146,9 @@ pub record KnowsRows (xacts : Xacts) (table : Table) (write : Writing) : Type 0 
       → (version.key ≡ row.stored.key) × (cells_of table version ≡ row.stored.cells) × IsOpenFor xacts write.owner.xid (version_stamp version)
   pub alone : (new : Stored) → new_left write.stage ≡ Some new → is_elsewhere (old_left write.stage) new.key ≡ true → tuple_in (counts_for xacts (Some write.owner.xid)) table.rows.pages new.key ≡ None
 
--- the new row has what its columns may have, and each pointer in it was saved for it or is the old row's in the same column; no two have one id
+-- the new row's key is a number of 64 bits; its columns have what they may have, and each pointer in it was saved for it or is the old row's in the same column; no two have one id
 pub record HasNewRow (t : ℕ) (storages : List Storage) (stage : WriteStage) : Type 0 where
+  pub key : (new : Stored) → new_left stage ≡ Some new → FitsSigned w64 new.key
   pub cells : AreCellsOf (toast_rel_of t) storages (cells_left stage)
   pub pushed : (column : ℕ) → Contains (to_push stage) column → slice_get storages (column - 1) ≡ Some External
   pub kept : (column : ℕ) (pointer : Pointer) → cell_of (cells_left stage) column ≡ Out pointer → Contains (ids_drawn stage) pointer.value_id ⊎ (cell_of (old_cells (old_left stage)) column ≡ Out pointer)

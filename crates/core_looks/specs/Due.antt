@@ -1,7 +1,7 @@
 -- The reply of a command's moment, by what the core itself finds: of its refusals the first that is there, in the plain store's order, else what is granted.
 use Rattle.std.specs.List.{enumerate_from, find}
 use Rattle.std.specs.Option.{option_map, option_map_or, unwrap_or}
-use Rattle.std.specs.Prelude.{Bool, List, None, Option, Some, [], false, is_none, is_some, nat_lt, not, true, ℕ, ℤ, ◌&&◌, ◌++◌, ◌==◌, ◌||◌, ◌∷◌}
+use Rattle.std.specs.Prelude.{Bool, List, None, Option, [], false, is_none, is_some, nat_lt, not, true, ℕ, ℤ, ◌&&◌, ◌++◌, ◌==◌, ◌||◌, ◌∷◌}
 use Rattle.tuple_layout.specs.Sizes.{largest_tuple}
 use Rattle.tuple_layout.specs.Slices.{slice}
 use Rattle.tuple_layout.specs.Tuples.{cell_widths}

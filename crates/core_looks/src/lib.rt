@@ -3,3 +3,5 @@
 //!
 //! Documentation: "Concurrency Control"; "Transaction Processing".
 #![tactic(auto)]
+
+pub mod laws;

@@ -1,0 +1,17 @@
+pub mod Found
+pub mod Named
+pub mod Sights
+pub mod Views
+pub mod Locks
+pub mod Standing
+pub mod Firsts
+pub mod Claims
+pub mod Sizes
+pub mod Uses
+pub mod Whole
+pub mod Used
+pub mod Before
+pub mod Since
+pub mod Refusals
+pub mod Replies
+pub mod Proved

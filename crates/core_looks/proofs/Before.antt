@@ -30,9 +30,11 @@ use Rattle.core_state.proofs.Seats.{sound_of}
 use Rattle.command_set.specs.declared.state.Plain.{Plain}
 use Rattle.core_state.specs.Stands.{Stands}
 use Rattle.core_looks.proofs.Firsts.{first_passes}
+use Rattle.command_set.specs.declared.Level.{Level}
 use Rattle.command_set.specs.declared.Reply.TheVariants as replies
 use Rattle.command_set.specs.declared.state.Session.TheVariants as plain
 use Rattle.core_state.specs.declared.seat.Job.TheVariants as jobs
+use Rattle.core_state.specs.declared.seat.State.TheVariants as states
 
 -- a session of a sound core has a command submitted in an open transaction
 pub record IsBefore (c : CoreState) (m : Plain) (replies : List (Option Reply)) (s : ℕ) (command : Command) (tr : Transaction) : Type 0 where
@@ -111,7 +113,10 @@ opens m s tr xs g is =
 pub opens_with : (m : Plain) (s t : ℕ) (tr : Transaction) (xs : List (Option Reply)) (g : Reply) → session_of m s ≡ plain.Open tr → m.upkeep ≡ [] → first_of (refused_before_use m s t ++ xs) g ≡ first_of xs g
 opens_with m s t tr xs g is none = opens m s tr (locked (rewriter_of m s t) ∷ xs) g is ∙ first_passes (locked (rewriter_of m s t)) xs g (ap locked (none_rewrites m s t none))
 
+pub opens_by : (c : CoreState) (s : ℕ) (level : Level) (xid snapshot : Option ℕ) (xs : List (Option Reply)) (g : Reply) → state_at c s ≡ states.Open level xid snapshot → first_of (refusals_first c s ++ xs) g ≡ first_of xs g
+opens_by c s level xid snapshot xs g is =
+    first_passes (outside_due (state_at c s)) (failed_due (state_at c s) ∷ xs) g (ap outside_due is)
+    ∙ first_passes (failed_due (state_at c s)) xs g (ap failed_due is)
+
 pub opens_due : (c : CoreState) (m : Plain) (s : ℕ) (tr : Transaction) (xs : List (Option Reply)) (g : Reply) → IsOpenAs c m s tr → first_of (refusals_first c s ++ xs) g ≡ first_of xs g
-opens_due c m s tr xs g opened =
-    first_passes (outside_due (state_at c s)) (failed_due (state_at c s) ∷ xs) g (ap outside_due opened.is)
-    ∙ first_passes (failed_due (state_at c s)) xs g (ap failed_due opened.is)
+opens_due c m s tr xs g opened = opens_by c s opened.level opened.xid opened.snapshot xs g opened.is

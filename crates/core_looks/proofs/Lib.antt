@@ -15,3 +15,7 @@ pub mod Since
 pub mod Refusals
 pub mod Replies
 pub mod Proved
+pub mod Refusing
+pub mod Refused
+pub mod Answering
+pub mod Granting

@@ -3,7 +3,15 @@ use Rattle.core_looks.proofs.Replies.{reply_is}
 use Rattle.core_looks.proofs.Used.{sees_used, session_used, sound_looked, stands_looked, stands_used, used_is}
 use Rattle.core_looks.proofs.Uses.{sound_used}
 use Rattle.core_looks.proofs.Views.{open_as, seen_is, there_is}
-use Rattle.core_looks.specs.Laws.{LooksTell, RepliesAreDue, UsesKeep}
+use Rattle.core_looks.specs.Laws.{GrantedTell, LooksTell, RefusedMoments, RepliesAreDue, UsesKeep}
+use Rattle.core_state.proofs.Begins.{left_over}
+use Rattle.core_looks.proofs.Answering.{runs_refused}
+use Rattle.core_looks.proofs.Refused.{refused_is}
+use Rattle.core_looks.specs.Due.{reply_due}
+use Rattle.core_state.specs.Events.{at_moment, line_due}
+use Rattle.core_looks.proofs.Before.{session_in_use, used_at}
+use Rattle.core_looks.proofs.Granting.{answer_granted}
+use Rattle.command_set.specs.declared.state.Session.TheVariants as plain
 
 pub uses_keep : UsesKeep
 uses_keep = record {
@@ -24,3 +32,17 @@ looks_tell = record {
 
 pub replies_are_due : RepliesAreDue
 replies_are_due = reply_is
+
+pub refused_moments : RefusedMoments
+refused_moments = record {
+  sound = λ c s command there sound job refuses. (refused_is c s command there sound job refuses).sound;
+  runs = runs_refused;
+  falls = λ c s command there sound job refuses. left_over c (at_moment (line_due c s command (reply_due c s command)) c s) s command job (refused_is c s command there sound job refuses).over;
+}
+
+pub granted_tell : GrantedTell
+granted_tell = record {
+  is = answer_granted;
+  used = λ c s t m replies tr stands is. used_at m s t tr stands.upkeep is;
+  its = λ c s m replies tr there stands. session_in_use c m replies s (plain.Open tr) there stands;
+}

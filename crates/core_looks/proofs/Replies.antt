@@ -33,7 +33,7 @@ use Rattle.command_set.specs.declared.state.Session.TheVariants as plain
 use Rattle.core_state.specs.declared.seat.Job.TheVariants as jobs
 use Rattle.core_state.specs.declared.seat.State.TheVariants as states
 
-abbrev reply_to : CoreState → Plain → ℕ → Command → Reply
+abbrev pub reply_to : CoreState → Plain → ℕ → Command → Reply
 reply_to c m s command = Answered.reply (answer (schemas_of c.tables) m s command)
 
 -- ---- in an open transaction
@@ -160,16 +160,16 @@ data_reply c m told s command there sound parts job stands is_one = by (state_at
         open_reply c m told s command opened.transaction (record { there = there; sound = sound; parts = parts; job = job; stands = stands; is = opened.is }) is_one (fits_at c s command there sound job)
 
 -- a begin, a commit and a rollback
-begin_due : (c : CoreState) (s : ℕ) (level : Level) (b : Bool) → is_outside (state_at c s) ≡ b → reply_due c s (commands.Begin level) ≡ first_of (answers_if (not b) replies.Inside ∷ []) replies.Okay
+pub begin_due : (c : CoreState) (s : ℕ) (level : Level) (b : Bool) → is_outside (state_at c s) ≡ b → reply_due c s (commands.Begin level) ≡ first_of (answers_if (not b) replies.Inside ∷ []) replies.Okay
 begin_due c s level b e = ap (λ (x : Bool). first_of (answers_if (not x) replies.Inside ∷ []) replies.Okay) e
 
 pub commit_due : (c : CoreState) (s : ℕ) (state : State) → state_at c s ≡ state → reply_due c s commands.Commit ≡ first_of (outside_due state ∷ rolled_back_due state ∷ []) replies.Okay
 commit_due c s state e = ap (λ (x : State). first_of (outside_due x ∷ rolled_back_due x ∷ []) replies.Okay) e
 
-rollback_due : (c : CoreState) (s : ℕ) (state : State) → state_at c s ≡ state → reply_due c s commands.Rollback ≡ first_of (outside_due state ∷ []) replies.Okay
+pub rollback_due : (c : CoreState) (s : ℕ) (state : State) → state_at c s ≡ state → reply_due c s commands.Rollback ≡ first_of (outside_due state ∷ []) replies.Okay
 rollback_due c s state e = ap (λ (x : State). first_of (outside_due x ∷ []) replies.Okay) e
 
-inside_state : (c : CoreState) (s : ℕ) (state : State) → state_at c s ≡ state → (state ≡ states.Outside → ⊥) → state_at c s ≢ states.Outside
+pub inside_state : (c : CoreState) (s : ℕ) (state : State) → state_at c s ≡ state → (state ≡ states.Outside → ⊥) → state_at c s ≢ states.Outside
 inside_state c s state is other e = other (sym is ∙ e)
 
 begin_reply : (c : CoreState) (m : Plain) (told : List (Option Reply)) (s : ℕ) (level : Level) → IsSession c.seats s → Stands c m told → reply_to c m s (commands.Begin level) ≡ reply_due c s (commands.Begin level)

@@ -1,8 +1,7 @@
 -- What a session's uses and look-ups keep of a core and tell of the plain store, the reply of each moment, and the moments that are refused.
-use Rattle.std.specs.FinMap as map
 use Rattle.std.specs.Option.{option_map}
-use Rattle.std.specs.Prelude.{List, Option, Some, false, map as mapped, slice_set, true, ℕ, ℤ, ◌-◌, ◌≡◌}
-use Rattle.command_set.specs.Answers.{answer, with_use}
+use Rattle.std.specs.Prelude.{List, Option, Some, false, map as mapped, slice_set, true, ℕ, ℤ, ◌-◌, ◌<◌, ◌≡◌}
+use Rattle.command_set.specs.Answers.{answer, effect, once_used, table_of, with_use}
 use Rattle.command_set.specs.Changes.{place}
 use Rattle.command_set.specs.Plain.{now_of, session_of, view_of, with_session}
 use Rattle.command_set.specs.declared.Command.{Command}
@@ -18,8 +17,13 @@ use Rattle.core_state.specs.Lines.{after_looking, after_use, takes_copy}
 use Rattle.core_state.specs.Stands.{Stands}
 use Rattle.core_state.specs.State.{CoreState, IsSession, IsTableOf, is_open, is_past_moment, is_repeatable, schemas_of, seat_of, table_at, xid_of}
 use Rattle.core_state.specs.Views.{in_view, row_seen}
-use Rattle.core_state.specs.declared.seat.Job.TheVariants as jobs
 use Rattle.core_looks.specs.Due.{reply_due, row_now}
+use Rattle.core_state.specs.Moves.{Runs}
+use Rattle.core_state.specs.Events.{at_moment, left, line_due}
+use Rattle.command_set.specs.Replies.{granted, is_granted, transaction_of}
+use Rattle.std.specs.FinMap as map
+use Rattle.core_state.specs.declared.seat.Job.TheVariants as jobs
+use Rattle.core_state.specs.declared.advance.Advance.TheVariants as advances
 
 -- ---- uses
 
@@ -69,3 +73,27 @@ pub record LooksTell : Type 0 where
 abbrev pub RepliesAreDue : Type 0
 RepliesAreDue = (c : CoreState) (s : ℕ) (command : Command) (m : Plain) (replies : List (Option Reply)) → IsSession c.seats s → IsSound c → PartsAreSound c → (seat_of c s).job ≡ jobs.Submitted command → Stands c m replies
     → Answered.reply (answer (schemas_of c.tables) m s command) ≡ reply_due c s command
+
+-- ---- moments
+
+-- what a granted command answers once its table is used, and the state after its effect
+abbrev pub granted_answer : Plain → ℕ → Command → Answered
+granted_answer m s command =
+    let used = once_used m s (session_of m s) (table_of command) in
+    let t = transaction_of (session_of used s) in
+    record { reply = granted used t command; after = effect used s t command }
+
+-- a granted moment
+pub record GrantedTell : Type 0 where
+  pub is : (c : CoreState) (s : ℕ) (command : Command) (m : Plain) (replies : List (Option Reply)) → IsSession c.seats s → IsSound c → PartsAreSound c → (seat_of c s).job ≡ jobs.Submitted command → Stands c m replies → is_granted (reply_due c s command) ≡ true
+      → answer (schemas_of c.tables) m s command ≡ granted_answer m s command
+  -- the state in which an open transaction has used a table, and the transaction that it then has
+  pub used : (c : CoreState) (s t : ℕ) (m : Plain) (replies : List (Option Reply)) (tr : Transaction) → Stands c m replies → session_of m s ≡ Open tr → once_used m s (session_of m s) (Some t) ≡ with_session m s (Open (with_use m tr t))
+  pub its : (c : CoreState) (s : ℕ) (m : Plain) (replies : List (Option Reply)) (tr : Transaction) → IsSession c.seats s → Stands c m replies → session_of (with_session m s (Open tr)) s ≡ Open tr
+
+-- a command's moment that is refused: the core is sound after the line that is due, it stands for the plain store's answer, and what is left falls
+pub record RefusedMoments : Type 0 where
+  pub sound : (c : CoreState) (s : ℕ) (command : Command) → IsSession c.seats s → IsSound c → (seat_of c s).job ≡ jobs.Submitted command → is_granted (reply_due c s command) ≡ false → IsSound (at_moment (line_due c s command (reply_due c s command)) c s)
+  pub runs : (c : CoreState) (s : ℕ) (command : Command) → IsSession c.seats s → IsSound c → PartsAreSound c → (seat_of c s).job ≡ jobs.Submitted command → is_granted (reply_due c s command) ≡ false
+      → Runs c s command (at_moment (line_due c s command (reply_due c s command)) c s) (advances.Done (reply_due c s command))
+  pub falls : (c : CoreState) (s : ℕ) (command : Command) → IsSession c.seats s → IsSound c → (seat_of c s).job ≡ jobs.Submitted command → is_granted (reply_due c s command) ≡ false → left (at_moment (line_due c s command (reply_due c s command)) c s) s < left c s

@@ -1,7 +1,7 @@
-//! What a session's uses and look-ups of a core come to beside the plain store, and the reply of each
-//! moment.
+//! What a session's uses and look-ups of a core come to beside the plain store, the reply of each
+//! moment, and the moments that are refused.
 
-ghost use Rattle.core_looks.specs.Laws.{LooksTell, RepliesAreDue, UsesKeep};
+ghost use Rattle.core_looks.specs.Laws.{GrantedTell, LooksTell, RefusedMoments, RepliesAreDue, UsesKeep};
 
 /// A core is sound once a session uses a table, and stands for the state in which the plain store's
 /// transaction uses it. Its reads find what they found.
@@ -17,4 +17,15 @@ pub fn looks_tell()
 /// The plain store's reply at each command's moment is the one that is due by what the core finds.
 pub fn replies_are_due()
     ensures { RepliesAreDue }
+{}
+
+/// The plain store's answer at a granted moment is what the command grants once its table is used.
+pub fn granted_tell()
+    ensures { GrantedTell }
+{}
+
+/// A core is sound after the moment of a command that is refused, and stands for the plain store's
+/// answer. What is left falls.
+pub fn refused_moments()
+    ensures { RefusedMoments }
 {}

@@ -19,3 +19,4 @@ pub mod Refusing
 pub mod Refused
 pub mod Answering
 pub mod Granting
+pub mod Commits

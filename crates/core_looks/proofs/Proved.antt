@@ -3,7 +3,7 @@ use Rattle.core_looks.proofs.Replies.{reply_is}
 use Rattle.core_looks.proofs.Used.{sees_used, session_used, sound_looked, stands_looked, stands_used, used_is}
 use Rattle.core_looks.proofs.Uses.{sound_used}
 use Rattle.core_looks.proofs.Views.{open_as, seen_is, there_is}
-use Rattle.core_looks.specs.Laws.{GrantedTell, LooksTell, RefusedMoments, RepliesAreDue, UsesKeep}
+use Rattle.core_looks.specs.Laws.{CommitsRun, GrantedTell, LooksTell, RefusedMoments, RepliesAreDue, UsesKeep}
 use Rattle.core_state.proofs.Begins.{left_over}
 use Rattle.core_looks.proofs.Answering.{runs_refused}
 use Rattle.core_looks.proofs.Refused.{refused_is}
@@ -11,7 +11,10 @@ use Rattle.core_looks.specs.Due.{reply_due}
 use Rattle.core_state.specs.Events.{at_moment, line_due}
 use Rattle.core_looks.proofs.Before.{session_in_use, used_at}
 use Rattle.core_looks.proofs.Granting.{answer_granted}
+use Rattle.core_state.specs.Lines.{after_commit_of}
+use Rattle.core_looks.proofs.Commits.{commit_runs, job_committed}
 use Rattle.command_set.specs.declared.state.Session.TheVariants as plain
+use Rattle.command_set.specs.declared.Command.TheVariants as commands
 
 pub uses_keep : UsesKeep
 uses_keep = record {
@@ -46,3 +49,6 @@ granted_tell = record {
   used = λ c s t m replies tr stands is. used_at m s t tr stands.upkeep is;
   its = λ c s m replies tr there stands. session_in_use c m replies s (plain.Open tr) there stands;
 }
+
+pub commits_run : CommitsRun
+commits_run = record { runs = commit_runs; falls = λ c s there job. left_over c (after_commit_of c s) s commands.Commit job (job_committed c s there) }

@@ -13,7 +13,7 @@ use Rattle.command_set.specs.declared.state.Transaction.{Transaction}
 use Rattle.table_state.specs.Rows.{cell_value}
 use Rattle.write_steps.specs.declared.stage.OldRow.{OldRow}
 use Rattle.core_state.specs.Facts.{IsSound, PartsAreSound}
-use Rattle.core_state.specs.Lines.{after_looking, after_use, takes_copy}
+use Rattle.core_state.specs.Lines.{after_commit_of, after_looking, after_use, takes_copy}
 use Rattle.core_state.specs.Stands.{Stands}
 use Rattle.core_state.specs.State.{CoreState, IsSession, IsTableOf, is_open, is_past_moment, is_repeatable, schemas_of, seat_of, table_at, xid_of}
 use Rattle.core_state.specs.Views.{in_view, row_seen}
@@ -24,6 +24,8 @@ use Rattle.command_set.specs.Replies.{granted, is_granted, transaction_of}
 use Rattle.std.specs.FinMap as map
 use Rattle.core_state.specs.declared.seat.Job.TheVariants as jobs
 use Rattle.core_state.specs.declared.advance.Advance.TheVariants as advances
+use Rattle.command_set.specs.declared.Command.TheVariants as commands
+use Rattle.command_set.specs.declared.Reply.TheVariants as replies
 
 -- ---- uses
 
@@ -97,3 +99,8 @@ pub record RefusedMoments : Type 0 where
   pub runs : (c : CoreState) (s : ℕ) (command : Command) → IsSession c.seats s → IsSound c → PartsAreSound c → (seat_of c s).job ≡ jobs.Submitted command → is_granted (reply_due c s command) ≡ false
       → Runs c s command (at_moment (line_due c s command (reply_due c s command)) c s) (advances.Done (reply_due c s command))
   pub falls : (c : CoreState) (s : ℕ) (command : Command) → IsSession c.seats s → IsSound c → (seat_of c s).job ≡ jobs.Submitted command → is_granted (reply_due c s command) ≡ false → left (at_moment (line_due c s command (reply_due c s command)) c s) s < left c s
+
+-- an open transaction commits: the core stands for the plain store's state after it, and what is left falls. That it is sound is a law of the core's lines
+pub record CommitsRun : Type 0 where
+  pub runs : (c : CoreState) (s : ℕ) → IsSession c.seats s → IsSound c → (seat_of c s).job ≡ jobs.Submitted commands.Commit → is_open (seat_of c s).state ≡ true → Runs c s commands.Commit (after_commit_of c s) (advances.Done replies.Okay)
+  pub falls : (c : CoreState) (s : ℕ) → IsSession c.seats s → (seat_of c s).job ≡ jobs.Submitted commands.Commit → left (after_commit_of c s) s < left c s

@@ -1,7 +1,7 @@
 //! What a session's uses and look-ups of a core come to beside the plain store, the reply of each
-//! moment, and the moments that are refused.
+//! moment, the moments that are refused, and those of commits.
 
-ghost use Rattle.core_looks.specs.Laws.{GrantedTell, LooksTell, RefusedMoments, RepliesAreDue, UsesKeep};
+ghost use Rattle.core_looks.specs.Laws.{CommitsRun, GrantedTell, LooksTell, RefusedMoments, RepliesAreDue, UsesKeep};
 
 /// A core is sound once a session uses a table, and stands for the state in which the plain store's
 /// transaction uses it. Its reads find what they found.
@@ -28,4 +28,10 @@ pub fn granted_tell()
 /// answer. What is left falls.
 pub fn refused_moments()
     ensures { RefusedMoments }
+{}
+
+/// The moment of a commit of an open transaction answers what the plain store answers: its rows are the
+/// committed ones, and every other session is told. What is left falls.
+pub fn commits_run()
+    ensures { CommitsRun }
 {}

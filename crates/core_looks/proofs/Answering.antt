@@ -1,39 +1,39 @@
 -- A refused command's moment answers what the plain store answers, and the core stands for the state after it.
 use Rattle.std.proofs.Common.{Bool, ap, inl, inr, refl, subst, sym, ◌∙◌}
-use Rattle.core_looks.proofs.Replies.{begin_due, commit_due, due_failed, due_outside, has_open, inside_state, none_used, reply_is, reply_to, rollback_due}
-use Rattle.core_state.specs.State.{CoreState, IsSession, is_open, schemas_of, seat_of}
+use Rattle.std.proofs.lemmas.List.{length-set}
+use Rattle.std.specs.Prelude.{List, None, Option, Some, [], false, if◌then◌else◌, slice_set, true, ℕ, ◌-◌, ◌≡◌}
+use Rattle.list_facts.proofs.Changed.{get_set_other, set_twice}
+use Rattle.command_set.specs.Answers.{answer, effect, failed_session, once_used, refused, table_of, with_failure, with_use}
+use Rattle.command_set.specs.Changes.{said}
 use Rattle.command_set.specs.Journals.{is_data}
+use Rattle.command_set.specs.Plain.{session_of, with_session}
+use Rattle.command_set.specs.Replies.{fails, is_granted, reply_of, transaction_of}
+use Rattle.command_set.specs.declared.Command.{Command}
+use Rattle.command_set.specs.declared.Level.{Level}
+use Rattle.command_set.specs.declared.Reply.{Reply}
+use Rattle.command_set.specs.declared.state.Plain.{Plain}
+use Rattle.command_set.specs.declared.state.Session.{Session}
+use Rattle.command_set.specs.declared.state.Transaction.{Transaction}
+use Rattle.core_state.proofs.Answered.{answer_is, answered, sessions_set}
+use Rattle.core_state.proofs.Begins.{runs_over}
+use Rattle.core_state.proofs.Below.{below}
+use Rattle.core_state.proofs.Falls.{stands_given_up}
+use Rattle.core_state.proofs.Proved.{over_runs}
 use Rattle.core_state.proofs.Standing.{its_session}
+use Rattle.core_state.specs.Events.{GivenUp, Looked, MomentLine, at_moment, line_due}
+use Rattle.core_state.specs.Facts.{IsSound, PartsAreSound}
 use Rattle.core_state.specs.Lines.{after_giving_up, after_looking, failed_state}
 use Rattle.core_state.specs.Moves.{Runs}
-use Rattle.core_looks.proofs.Refusing.{LooksInto, fails_by, is_refusal, open_kind, refusal_kind}
-use Rattle.core_looks.specs.Due.{is_outside, reply_due}
-use Rattle.core_looks.proofs.Refused.{job_given, job_looked, line_by, refused_is}
-use Rattle.core_state.specs.Events.{GivenUp, Looked, MomentLine, at_moment, line_due}
-use Rattle.command_set.specs.Answers.{answer, effect, failed_session, once_used, refused, table_of, with_failure, with_use}
-use Rattle.list_facts.proofs.Changed.{get_set_other, set_twice}
-use Rattle.core_looks.proofs.Before.{fits_at, in_use, session_in_use, used_at}
-use Rattle.core_state.proofs.Below.{below}
-use Rattle.std.specs.Prelude.{List, None, Option, Some, [], false, if◌then◌else◌, slice_set, true, ℕ, ◌-◌, ◌≡◌}
-use Rattle.core_state.specs.declared.seat.State.{State}
-use Rattle.command_set.specs.declared.state.Session.{Session}
-use Rattle.core_state.proofs.Answered.{answer_is, answered, sessions_set}
-use Rattle.command_set.specs.declared.state.Transaction.{Transaction}
-use Rattle.command_set.specs.declared.state.Plain.{Plain}
 use Rattle.core_state.specs.Stands.{SessionStands, Stands}
-use Rattle.command_set.specs.declared.Command.{Command}
-use Rattle.core_state.proofs.Begins.{runs_over}
-use Rattle.core_state.specs.Facts.{IsSound, PartsAreSound}
-use Rattle.command_set.specs.Replies.{fails, is_granted, reply_of, transaction_of}
-use Rattle.core_state.proofs.Falls.{stands_given_up}
-use Rattle.command_set.specs.Plain.{session_of, with_session}
-use Rattle.command_set.specs.declared.Reply.{Reply}
-use Rattle.core_looks.proofs.Used.{stands_looked}
-use Rattle.std.proofs.lemmas.List.{length-set}
+use Rattle.core_state.specs.State.{CoreState, IsSession, is_open, schemas_of, seat_of}
+use Rattle.core_state.specs.declared.seat.State.{State}
+use Rattle.core_looks.proofs.Before.{fits_at, in_use, session_in_use, used_at}
+use Rattle.core_looks.proofs.Refused.{job_given, job_looked, line_by, refused_is}
+use Rattle.core_looks.proofs.Refusing.{LooksInto, fails_by, is_refusal, open_kind, refusal_kind}
+use Rattle.core_looks.proofs.Replies.{begin_due, commit_due, due_failed, due_outside, has_open, inside_state, none_used, reply_is, reply_to, rollback_due}
 use Rattle.core_looks.proofs.Sights.{state_at}
-use Rattle.core_state.proofs.Proved.{over_runs}
-use Rattle.command_set.specs.Changes.{said}
-use Rattle.command_set.specs.declared.Level.{Level}
+use Rattle.core_looks.proofs.Used.{stands_looked}
+use Rattle.core_looks.specs.Due.{is_outside, reply_due}
 use Rattle.command_set.specs.declared.Command.TheVariants as commands
 use Rattle.command_set.specs.declared.Reply.TheVariants as replies
 use Rattle.command_set.specs.declared.state.Session.TheVariants as plain

@@ -1,36 +1,36 @@
 -- An open transaction before the moment of a command that uses a table: what the plain store is once the table is used.
 use Rattle.std.proofs.Common.{Bool, ap, arith, refl, subst, ◌∙◌}
-use Rattle.command_set.specs.Replies.{answers_if, failed, first_of, granted, is_failed, is_outside, is_rewrite, locked, outside, refusals, refused_before_use, reply_of, rewriter_of, schema_of, transaction_of}
 use Rattle.std.proofs.lemmas.List.{length-map}
-use Rattle.core_looks.proofs.Views.{IsOpenAs, open_as}
-use Rattle.command_set.specs.declared.Command.{Command}
-use Rattle.core_state.proofs.Answered.{session_at_place, sessions_set}
+use Rattle.std.proofs.lemmas.Option.{slice_get-map}
 use Rattle.std.specs.List.{enumerate_from, find, list_any}
-use Rattle.core_state.specs.State.{CoreState, IsSession, IsTableOf, is_past_moment, no_table, schemas_of, seat_of, table_at}
-use Rattle.core_looks.specs.Due.{failed_due, outside_due, refusals_first}
-use Rattle.core_state.proofs.Standing.{its_session}
-use Rattle.core_state.specs.declared.seat.Job.{Job}
-use Rattle.tuple_layout.specs.Schemas.{TableSchema, no_columns}
-use Rattle.core_state.specs.Facts.{IsSound, JobIsSound, PartsAreSound}
-use Rattle.command_set.specs.declared.Reply.{Reply}
-use Rattle.command_set.specs.declared.state.Transaction.{Transaction}
-use Rattle.core_looks.proofs.Sights.{state_at}
-use Rattle.command_set.specs.Plain.{session_of, with_session}
+use Rattle.std.specs.Option.{option_map, unwrap_or}
 use Rattle.std.specs.Prelude.{List, None, Option, Some, [], cond, false, if◌then◌else◌, is_some, not, suc, true, zero, ℕ, ◌&&◌, ◌++◌, ◌==◌, ◌∷◌, ◌≡◌}
+use Rattle.tuple_layout.specs.Schemas.{TableSchema, no_columns}
 use Rattle.lock_table.specs.Locks.{held_by}
 use Rattle.command_set.specs.Answers.{once_used, with_use}
-use Rattle.core_state.specs.Commands.{IsFitting, IsTableIn}
-use Rattle.std.specs.Option.{option_map, unwrap_or}
-use Rattle.command_set.specs.declared.state.Running.{Running}
-use Rattle.table_state.specs.declared.table.Table.{Table}
-use Rattle.core_state.proofs.Lists.{read_there}
-use Rattle.command_set.specs.declared.state.Session.{Session}
-use Rattle.std.proofs.lemmas.Option.{slice_get-map}
-use Rattle.core_state.proofs.Seats.{sound_of}
-use Rattle.command_set.specs.declared.state.Plain.{Plain}
-use Rattle.core_state.specs.Stands.{Stands}
-use Rattle.core_looks.proofs.Firsts.{first_passes}
+use Rattle.command_set.specs.Plain.{session_of, with_session}
+use Rattle.command_set.specs.Replies.{answers_if, failed, first_of, granted, is_failed, is_outside, is_rewrite, locked, outside, refusals, refused_before_use, reply_of, rewriter_of, schema_of, transaction_of}
+use Rattle.command_set.specs.declared.Command.{Command}
 use Rattle.command_set.specs.declared.Level.{Level}
+use Rattle.command_set.specs.declared.Reply.{Reply}
+use Rattle.command_set.specs.declared.state.Plain.{Plain}
+use Rattle.command_set.specs.declared.state.Running.{Running}
+use Rattle.command_set.specs.declared.state.Session.{Session}
+use Rattle.command_set.specs.declared.state.Transaction.{Transaction}
+use Rattle.table_state.specs.declared.table.Table.{Table}
+use Rattle.core_state.proofs.Answered.{session_at_place, sessions_set}
+use Rattle.core_state.proofs.Lists.{read_there}
+use Rattle.core_state.proofs.Seats.{sound_of}
+use Rattle.core_state.proofs.Standing.{its_session}
+use Rattle.core_state.specs.Commands.{IsFitting, IsTableIn}
+use Rattle.core_state.specs.Facts.{IsSound, JobIsSound, PartsAreSound}
+use Rattle.core_state.specs.Stands.{Stands}
+use Rattle.core_state.specs.State.{CoreState, IsSession, IsTableOf, is_past_moment, no_table, schemas_of, seat_of, table_at}
+use Rattle.core_state.specs.declared.seat.Job.{Job}
+use Rattle.core_looks.proofs.Firsts.{first_passes}
+use Rattle.core_looks.proofs.Sights.{state_at}
+use Rattle.core_looks.proofs.Views.{IsOpenAs, open_as}
+use Rattle.core_looks.specs.Due.{failed_due, outside_due, refusals_first}
 use Rattle.command_set.specs.declared.Reply.TheVariants as replies
 use Rattle.command_set.specs.declared.state.Session.TheVariants as plain
 use Rattle.core_state.specs.declared.seat.Job.TheVariants as jobs

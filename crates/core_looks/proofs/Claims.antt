@@ -1,29 +1,29 @@
 -- The claims of the sessions are the changes of the plain store's, and so who is in the way of a row is who is busy with it there.
 use Rattle.std.proofs.Common.{ap, arith, refl, subst, sym, ◌∙◌}
 use Rattle.std.proofs.lemmas.Bool.Decides.{nat_tests}
+use Rattle.std.proofs.lemmas.List.{length-set}
 use Rattle.std.specs.List.{enumerate_from, find}
 use Rattle.std.specs.Option.{option_map}
 use Rattle.std.specs.Prelude.{Bool, List, Option, Some, [], cond, false, length, not, slice_get, slice_index_or, slice_set, suc, true, ℕ, ◌&&◌, ◌+◌, ◌-◌, ◌==◌, ◌∷◌, ◌≡◌, ◌≢◌, ◌≤◌}
-use Rattle.core_looks.specs.Due.{claim_of, claimer_of}
-use Rattle.core_state.specs.Stands.{SessionStands, Stands}
-use Rattle.command_set.specs.declared.state.Session.{Session}
-use Rattle.command_set.specs.Replies.{changer_of, has_changed}
-use Rattle.command_set.specs.declared.state.Plain.{Plain}
-use Rattle.core_state.specs.Facts.{IsSound, LocksAreSound}
-use Rattle.core_state.specs.declared.seat.State.{State}
-use Rattle.std.proofs.lemmas.List.{length-set}
-use Rattle.core_state.proofs.Lists.{read_found, read_there}
-use Rattle.tuple_layout.specs.declared.Place.{Place}
-use Rattle.core_state.specs.State.{CoreState, nobody}
-use Rattle.command_set.specs.declared.Reply.{Reply}
-use Rattle.core_state.specs.declared.seat.Seat.{Seat}
-use Rattle.lock_table.specs.declared.lock.RowKey.{RowKey}
 use Rattle.list_facts.proofs.Changed.{get_set_other}
-use Rattle.lock_table.specs.declared.held.SessionLocks.{SessionLocks}
+use Rattle.tuple_layout.specs.declared.Place.{Place}
 use Rattle.lock_table.specs.Held.{holds_row, nothing}
-use Rattle.command_set.specs.Plain.{with_session}
-use Rattle.core_state.proofs.Answered.{within}
 use Rattle.lock_table.specs.Locks.{held_by}
+use Rattle.lock_table.specs.declared.held.SessionLocks.{SessionLocks}
+use Rattle.lock_table.specs.declared.lock.RowKey.{RowKey}
+use Rattle.command_set.specs.Plain.{with_session}
+use Rattle.command_set.specs.Replies.{changer_of, has_changed}
+use Rattle.command_set.specs.declared.Reply.{Reply}
+use Rattle.command_set.specs.declared.state.Plain.{Plain}
+use Rattle.command_set.specs.declared.state.Session.{Session}
+use Rattle.core_state.proofs.Answered.{within}
+use Rattle.core_state.proofs.Lists.{read_found, read_there}
+use Rattle.core_state.specs.Facts.{IsSound, LocksAreSound}
+use Rattle.core_state.specs.Stands.{SessionStands, Stands}
+use Rattle.core_state.specs.State.{CoreState, nobody}
+use Rattle.core_state.specs.declared.seat.Seat.{Seat}
+use Rattle.core_state.specs.declared.seat.State.{State}
+use Rattle.core_looks.specs.Due.{claim_of, claimer_of}
 use Rattle.command_set.specs.declared.state.Session.TheVariants as plain
 use Rattle.core_state.specs.declared.seat.State.TheVariants as states
 

@@ -1,83 +1,83 @@
 -- What a core stands for once a transaction has committed: its rows are the committed ones, and every other session is told.
 use Rattle.std.proofs.Common.{Bool, ap, arith, inl, inr, refl, subst, sym, ◌∙◌}
-use Rattle.core_state.specs.Stands.{CopyStands, HasCopy, SessionStands, Stands, TransactionStands, change_logged, change_of, coming, logged_changes, pending_of, row_in_table}
-use Rattle.core_state.specs.State.{CoreState, IsSession, is_open, job_table, nobody, schemas_of, seat_of, snapshot_of, table_at, uses_of, xid_of}
-use Rattle.tuple_layout.proofs.PlaceLemmas.{same_place_is}
-use Rattle.std.specs.List.{cons_option, filter_map, list_any}
-use Rattle.core_state.proofs.Standing.{its_session}
-use Rattle.xact_status.specs.Xacts.{after_commit, is_committed, is_running, session_at}
-use Rattle.core_state.proofs.Released.{released_all}
-use Rattle.core_state.proofs.Answered.{answered, commit_open, sessions_set, within}
-use Rattle.core_state.specs.Lines.{after_commit_of, ids_released, once_aborted, once_committed, once_ended, once_released, once_unpinned}
-use Rattle.core_state.proofs.Lists.{read_found}
-use Rattle.std.specs.Prelude.{Contains, List, None, Option, Some, [], cond, false, if◌then◌else◌, is_some, map as mapped, slice_get, slice_index_or, slice_set, suc, true, zero, ℕ, ◌++◌, ◌-◌, ◌==◌, ◌||◌, ◌∷◌, ◌≡◌, ◌≢◌}
-use Rattle.std.proofs.lemmas.List.{append-nil, length-map, length-set}
-use Rattle.core_state.specs.Moves.{Runs}
-use Rattle.table_rows.specs.Worlds.{IsUntouched, tuple_in}
-use Rattle.core_state.proofs.Seats.{seat_written, sound_of}
-use Rattle.core_state.specs.Views.{in_sight, registered, row_at}
-use Rattle.core_state.proofs.Moved.{state_uses}
-use Rattle.core_looks.proofs.Replies.{has_open}
-use Rattle.core_looks.proofs.Sights.{pages_at, registered_is, state_at, untouched}
-use Rattle.command_set.specs.Changes.{fold_changes, is_named, keys_of, outcome, place, places_of}
-use Rattle.tuple_layout.specs.declared.Place.{Place}
-use Rattle.tuple_layout.specs.Places.{Row, Rows, same_place}
-use Rattle.list_facts.proofs.Members.{first_in, from_chosen, later_in}
-use Rattle.core_state.specs.Facts.{IsSound, LocksAreSound, places_logged}
-use Rattle.core_state.specs.declared.seat.Job.{Job}
-use Rattle.command_set.specs.declared.state.Transaction.{Transaction}
-use Rattle.command_set.specs.Answers.{committed, told_by}
-use Rattle.core_state.specs.Events.{left}
-use Rattle.command_set.specs.declared.state.Change.TheVariants.{Insert, Move, Remove, Update}
-use Rattle.core_state.proofs.Ended.{held_other, left_registered, uses_most}
+use Rattle.std.proofs.lemmas.Bool.{cases_Bool}
 use Rattle.std.proofs.lemmas.Bool.Decides.{nat_tests}
+use Rattle.std.proofs.lemmas.List.{append-nil, length-map, length-set}
+use Rattle.std.proofs.lemmas.List.Elements.{filter_map-append}
+use Rattle.std.proofs.lemmas.List.Folds.{list_any-append}
+use Rattle.std.specs.FinMap as map
+use Rattle.std.specs.List.{cons_option, filter_map, list_any}
+use Rattle.std.specs.Option.{option_map, unwrap_or}
+use Rattle.std.specs.Ordering.{int_cmp, is_eq}
+use Rattle.std.specs.Prelude.{Contains, List, None, Option, Some, [], cond, false, if◌then◌else◌, is_some, map as mapped, slice_get, slice_index_or, slice_set, suc, true, zero, ℕ, ◌++◌, ◌-◌, ◌==◌, ◌||◌, ◌∷◌, ◌≡◌, ◌≢◌}
+use Rattle.list_facts.proofs.Changed.{after_set, get_set_other}
+use Rattle.list_facts.proofs.Members.{first_in, from_chosen, later_in}
+use Rattle.tuple_layout.proofs.PlaceLemmas.{same_place_is}
+use Rattle.tuple_layout.specs.Places.{Row, Rows, same_place}
+use Rattle.tuple_layout.specs.declared.Place.{Place}
+use Rattle.xact_status.specs.Versions.{counts_for}
+use Rattle.xact_status.specs.Xacts.{after_commit, is_committed, is_running, session_at}
+use Rattle.snapshot_registry.specs.Laws.{IsTakenFrom}
+use Rattle.snapshot_registry.specs.Snapshots.{Snaps, committed_in, held_at, is_registered}
+use Rattle.snapshot_registry.specs.declared.Held.{Held}
 use Rattle.snapshot_registry.specs.declared.Snapshot.{Snapshot}
-use Rattle.command_set.specs.Plain.{session_of, with_session}
+use Rattle.change_log.specs.Logs.{LogState}
+use Rattle.change_log.specs.declared.entry.LogEntry.{LogEntry}
+use Rattle.lock_table.specs.Held.{holds_row}
+use Rattle.lock_table.specs.Locks.{after_end, held_by}
+use Rattle.lock_table.specs.declared.held.SessionLocks.{SessionLocks}
 use Rattle.lock_table.specs.declared.lock.RowKey.{RowKey}
 use Rattle.command_set.proofs.Named.{named_append, named_by_any}
 use Rattle.command_set.proofs.Outcomes.{fold_other, outcome_other}
-use Rattle.core_state.specs.declared.seat.State.{State}
+use Rattle.command_set.specs.Answers.{committed, told_by}
+use Rattle.command_set.specs.Changes.{fold_changes, is_named, keys_of, outcome, place, places_of}
+use Rattle.command_set.specs.Plain.{session_of, with_session}
 use Rattle.command_set.specs.Replies.{taken, transaction_of}
-use Rattle.table_rows.proofs.Records.{moments_tell, since_stays}
-use Rattle.table_state.specs.declared.table.Table.{Table}
-use Rattle.xact_status.specs.Versions.{counts_for}
-use Rattle.change_log.specs.declared.entry.LogEntry.{LogEntry}
-use Rattle.std.specs.Option.{option_map, unwrap_or}
-use Rattle.command_set.specs.declared.state.Change.{Change}
-use Rattle.table_rows.specs.Views.{IsOwnAt, IsSince}
-use Rattle.core_looks.proofs.Named.{fold_named}
-use Rattle.command_set.specs.declared.state.Plain.{Plain}
-use Rattle.lock_table.specs.Held.{holds_row}
-use Rattle.lock_table.specs.Locks.{after_end, held_by}
-use Rattle.std.proofs.lemmas.List.Folds.{list_any-append}
-use Rattle.snapshot_registry.specs.declared.Held.{Held}
-use Rattle.std.specs.Ordering.{int_cmp, is_eq}
-use Rattle.core_state.proofs.Falls.{stands_given_up}
-use Rattle.table_state.specs.Rows.{row_of}
 use Rattle.command_set.specs.declared.Level.{Level}
-use Rattle.snapshot_registry.specs.Laws.{IsTakenFrom}
-use Rattle.snapshot_registry.specs.Snapshots.{Snaps, committed_in, held_at, is_registered}
-use Rattle.core_state.proofs.Below.{below}
-use Rattle.change_log.specs.Logs.{LogState}
-use Rattle.core_looks.specs.Due.{claim_of}
-use Rattle.std.proofs.lemmas.Bool.{cases_Bool}
-use Rattle.core_looks.proofs.Views.{IsOpenAs, open_as}
-use Rattle.command_set.specs.declared.state.Session.{Session}
-use Rattle.core_state.specs.Coming.{xid_logged}
-use Rattle.core_state.proofs.Begins.{runs_over}
 use Rattle.command_set.specs.declared.Reply.{Reply}
-use Rattle.list_facts.proofs.Changed.{after_set, get_set_other}
-use Rattle.lock_table.specs.declared.held.SessionLocks.{SessionLocks}
+use Rattle.command_set.specs.declared.state.Change.{Change}
+use Rattle.command_set.specs.declared.state.Change.TheVariants.{Insert, Move, Remove, Update}
+use Rattle.command_set.specs.declared.state.Plain.{Plain}
+use Rattle.command_set.specs.declared.state.Session.{Session}
+use Rattle.command_set.specs.declared.state.Transaction.{Transaction}
+use Rattle.table_rows.proofs.Records.{moments_tell, since_stays}
+use Rattle.table_rows.specs.Views.{IsOwnAt, IsSince}
+use Rattle.table_rows.specs.Worlds.{IsUntouched, tuple_in}
+use Rattle.table_state.specs.Rows.{row_of}
+use Rattle.table_state.specs.declared.table.Table.{Table}
+use Rattle.core_state.proofs.Answered.{answered, commit_open, sessions_set, within}
+use Rattle.core_state.proofs.Begins.{runs_over}
+use Rattle.core_state.proofs.Below.{below}
+use Rattle.core_state.proofs.Ended.{held_other, left_registered, uses_most}
+use Rattle.core_state.proofs.Falls.{stands_given_up}
+use Rattle.core_state.proofs.Lists.{read_found}
+use Rattle.core_state.proofs.Moved.{state_uses}
+use Rattle.core_state.proofs.Released.{released_all}
+use Rattle.core_state.proofs.Seats.{seat_written, sound_of}
+use Rattle.core_state.proofs.Standing.{its_session}
+use Rattle.core_state.specs.Coming.{xid_logged}
+use Rattle.core_state.specs.Events.{left}
+use Rattle.core_state.specs.Facts.{IsSound, LocksAreSound, places_logged}
+use Rattle.core_state.specs.Lines.{after_commit_of, ids_released, once_aborted, once_committed, once_ended, once_released, once_unpinned}
+use Rattle.core_state.specs.Moves.{Runs}
+use Rattle.core_state.specs.Stands.{CopyStands, HasCopy, SessionStands, Stands, TransactionStands, change_logged, change_of, coming, logged_changes, pending_of, row_in_table}
+use Rattle.core_state.specs.State.{CoreState, IsSession, is_open, job_table, nobody, schemas_of, seat_of, snapshot_of, table_at, uses_of, xid_of}
+use Rattle.core_state.specs.Views.{in_sight, registered, row_at}
+use Rattle.core_state.specs.declared.seat.Job.{Job}
 use Rattle.core_state.specs.declared.seat.Seat.{Seat}
-use Rattle.std.proofs.lemmas.List.Elements.{filter_map-append}
+use Rattle.core_state.specs.declared.seat.State.{State}
+use Rattle.core_looks.proofs.Named.{fold_named}
+use Rattle.core_looks.proofs.Replies.{has_open}
+use Rattle.core_looks.proofs.Sights.{pages_at, registered_is, state_at, untouched}
+use Rattle.core_looks.proofs.Views.{IsOpenAs, open_as}
+use Rattle.core_looks.specs.Due.{claim_of}
+use Rattle.change_log.specs.declared.entry.LogEntry.TheVariants as entries
 use Rattle.command_set.specs.declared.Command.TheVariants as commands
 use Rattle.command_set.specs.declared.Reply.TheVariants as replies
 use Rattle.command_set.specs.declared.state.Session.TheVariants as plain
 use Rattle.core_state.specs.declared.advance.Advance.TheVariants as advances
 use Rattle.core_state.specs.declared.seat.Job.TheVariants as jobs
 use Rattle.core_state.specs.declared.seat.State.TheVariants as states
-use Rattle.std.specs.FinMap as map
-use Rattle.change_log.specs.declared.entry.LogEntry.TheVariants as entries
 
 -- ---- the places that a transaction has changed
 

@@ -1,32 +1,32 @@
 -- What the plain store answers at a moment that is granted: what its command grants, and the state after its effect.
 use Rattle.std.proofs.Common.{Bool, ap, refl, subst, ◌∙◌}
-use Rattle.core_state.specs.State.{CoreState, IsSession, schemas_of, seat_of}
-use Rattle.command_set.specs.declared.state.Transaction.{Transaction}
-use Rattle.command_set.specs.Changes.{is_named, keys_of, place}
-use Rattle.command_set.specs.Answers.{answer, effect, once_used, refused, table_of}
-use Rattle.command_set.specs.Plain.{now_of, row_at, row_with, session_of, value_at, view_of}
-use Rattle.command_set.specs.declared.state.Upkeep.TheVariants.{Main, Rewrite, Toast}
-use Rattle.command_set.specs.Replies.{absent, answers_if, bad_offset, changed, changer_of, failed, first_of, granted, holder_of, is_failed, is_granted, is_outside, null, outside, refusals, refused_upkeep, reply_of, rewriter_of, schema_of, taken, too_big, transaction_of}
-use Rattle.std.specs.Prelude.{List, None, Option, Some, [], false, if◌then◌else◌, is_none, is_some, nat_lt, negsuc, not, pos, true, ℕ, ℤ, ⊤, ◌&&◌, ◌||◌, ◌∷◌, ◌≡◌}
-use Rattle.command_set.specs.declared.state.Plain.{Plain}
-use Rattle.tuple_layout.specs.Sizes.{all_out_size, largest_tuple}
-use Rattle.core_state.specs.Facts.{IsSound, PartsAreSound}
-use Rattle.core_looks.specs.Due.{reply_due}
-use Rattle.tuple_layout.specs.Schemas.{TableSchema}
-use Rattle.tuple_layout.specs.Places.{Row, Rows}
-use Rattle.core_state.specs.Stands.{Stands}
-use Rattle.command_set.specs.declared.state.Upkeep.{Upkeep}
-use Rattle.core_looks.proofs.Replies.{reply_is}
+use Rattle.std.specs.FinMap as map
 use Rattle.std.specs.Option.{option_map}
-use Rattle.command_set.specs.declared.Command.{Command}
-use Rattle.core_state.proofs.Answered.{answered}
-use Rattle.command_set.specs.declared.Reply.{Reply}
-use Rattle.core_looks.specs.Laws.{granted_answer}
+use Rattle.std.specs.Prelude.{List, None, Option, Some, [], false, if◌then◌else◌, is_none, is_some, nat_lt, negsuc, not, pos, true, ℕ, ℤ, ⊤, ◌&&◌, ◌||◌, ◌∷◌, ◌≡◌}
+use Rattle.tuple_layout.specs.Places.{Row, Rows}
+use Rattle.tuple_layout.specs.Schemas.{TableSchema}
+use Rattle.tuple_layout.specs.Sizes.{all_out_size, largest_tuple}
 use Rattle.tuple_layout.specs.declared.Place.{Place}
+use Rattle.command_set.specs.Answers.{answer, effect, once_used, refused, table_of}
+use Rattle.command_set.specs.Changes.{is_named, keys_of, place}
+use Rattle.command_set.specs.Plain.{now_of, row_at, row_with, session_of, value_at, view_of}
+use Rattle.command_set.specs.Replies.{absent, answers_if, bad_offset, changed, changer_of, failed, first_of, granted, holder_of, is_failed, is_granted, is_outside, null, outside, refusals, refused_upkeep, reply_of, rewriter_of, schema_of, taken, too_big, transaction_of}
+use Rattle.command_set.specs.declared.Command.{Command}
+use Rattle.command_set.specs.declared.Reply.{Reply}
+use Rattle.command_set.specs.declared.state.Plain.{Plain}
+use Rattle.command_set.specs.declared.state.Transaction.{Transaction}
+use Rattle.command_set.specs.declared.state.Upkeep.{Upkeep}
+use Rattle.command_set.specs.declared.state.Upkeep.TheVariants.{Main, Rewrite, Toast}
+use Rattle.core_state.proofs.Answered.{answered}
+use Rattle.core_state.specs.Facts.{IsSound, PartsAreSound}
+use Rattle.core_state.specs.Stands.{Stands}
+use Rattle.core_state.specs.State.{CoreState, IsSession, schemas_of, seat_of}
+use Rattle.core_looks.proofs.Replies.{reply_is}
+use Rattle.core_looks.specs.Due.{reply_due}
+use Rattle.core_looks.specs.Laws.{granted_answer}
 use Rattle.command_set.specs.declared.Command.TheVariants as commands
 use Rattle.command_set.specs.declared.Reply.TheVariants as replies
 use Rattle.core_state.specs.declared.seat.Job.TheVariants as jobs
-use Rattle.std.specs.FinMap as map
 
 -- no refusal grants
 abbrev pub Bars : Option Reply → Type 0

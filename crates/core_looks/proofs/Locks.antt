@@ -2,12 +2,13 @@
 use Rattle.std.proofs.Common.{ap, arith, inl, inr, refl, subst, sym, ◌∙◌}
 use Rattle.std.proofs.lemmas.Bool.{lt-ltb}
 use Rattle.std.proofs.lemmas.Bool.Decides.{nat_tests}
-use Rattle.std.proofs.lemmas.List.Folds.{list_any-append}
 use Rattle.std.proofs.lemmas.List.{length-set}
+use Rattle.std.proofs.lemmas.List.Folds.{list_any-append}
 use Rattle.std.specs.Prelude.{Bool, Contains, List, [], false, if◌then◌else◌, length, true, ℕ, ◌&&◌, ◌++◌, ◌<◌, ◌==◌, ◌||◌, ◌∷◌, ◌≡◌, ◌≢◌, ◌≤◌}
 use Rattle.lock_table.proofs.Holders.{granted_other, granted_same}
 use Rattle.lock_table.specs.Held.{holds_row, holds_table, with_lock, with_table}
 use Rattle.lock_table.specs.Locks.{granted, held_by, table_lock}
+use Rattle.lock_table.specs.Modes.{same_mode}
 use Rattle.lock_table.specs.declared.held.SessionLocks.{SessionLocks}
 use Rattle.lock_table.specs.declared.lock.LockMode.TheVariants.{Use}
 use Rattle.lock_table.specs.declared.lock.RowKey.{RowKey}
@@ -15,7 +16,6 @@ use Rattle.lock_table.specs.declared.lock.TableLock.{TableLock}
 use Rattle.core_state.proofs.Lists.{in_append, only_one}
 use Rattle.core_state.proofs.Moved.{KeepsLocks}
 use Rattle.core_state.specs.Facts.{AreApart, Uses}
-use Rattle.lock_table.specs.Modes.{same_mode}
 
 -- a lock for use
 abbrev pub use_of : ℕ → TableLock

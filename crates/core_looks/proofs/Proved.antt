@@ -1,20 +1,20 @@
 -- The laws, from the lemmas on each.
+use Rattle.core_state.proofs.Begins.{left_over}
+use Rattle.core_state.specs.Events.{at_moment, line_due}
+use Rattle.core_state.specs.Lines.{after_commit_of}
+use Rattle.core_looks.proofs.Answering.{runs_refused}
+use Rattle.core_looks.proofs.Before.{session_in_use, used_at}
+use Rattle.core_looks.proofs.Commits.{commit_runs, job_committed}
+use Rattle.core_looks.proofs.Granting.{answer_granted}
+use Rattle.core_looks.proofs.Refused.{refused_is}
 use Rattle.core_looks.proofs.Replies.{reply_is}
 use Rattle.core_looks.proofs.Used.{sees_used, session_used, sound_looked, stands_looked, stands_used, used_is}
 use Rattle.core_looks.proofs.Uses.{sound_used}
 use Rattle.core_looks.proofs.Views.{open_as, seen_is, there_is}
-use Rattle.core_looks.specs.Laws.{CommitsRun, GrantedTell, LooksTell, RefusedMoments, RepliesAreDue, UsesKeep}
-use Rattle.core_state.proofs.Begins.{left_over}
-use Rattle.core_looks.proofs.Answering.{runs_refused}
-use Rattle.core_looks.proofs.Refused.{refused_is}
 use Rattle.core_looks.specs.Due.{reply_due}
-use Rattle.core_state.specs.Events.{at_moment, line_due}
-use Rattle.core_looks.proofs.Before.{session_in_use, used_at}
-use Rattle.core_looks.proofs.Granting.{answer_granted}
-use Rattle.core_state.specs.Lines.{after_commit_of}
-use Rattle.core_looks.proofs.Commits.{commit_runs, job_committed}
-use Rattle.command_set.specs.declared.state.Session.TheVariants as plain
+use Rattle.core_looks.specs.Laws.{CommitsRun, GrantedTell, LooksTell, RefusedMoments, RepliesAreDue, UsesKeep}
 use Rattle.command_set.specs.declared.Command.TheVariants as commands
+use Rattle.command_set.specs.declared.state.Session.TheVariants as plain
 
 pub uses_keep : UsesKeep
 uses_keep = record {

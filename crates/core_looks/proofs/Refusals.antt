@@ -1,50 +1,50 @@
 -- The plain store's reply to a command of an open transaction is the one that is due by what the core finds.
 use Rattle.std.proofs.Common.{Bool, ap, arith, refl, sym, ◌∙◌}
-use Rattle.core_state.specs.Facts.{IsSound}
-use Rattle.command_set.specs.Replies.{absent, answers_if, bad_offset, busy, changed, first_of, granted, handle_there, no_handle, null, schema_of, taken, too_big}
-use Rattle.core_looks.proofs.Sizes.{inserted_size, updated_size}
-use Rattle.core_looks.proofs.Claims.{claimer_is}
-use Rattle.core_looks.proofs.Before.{IsBefore, before_at, in_use, opened_at, schema_is}
-use Rattle.tuple_layout.specs.declared.cell.Cell.{Cell}
-use Rattle.std.specs.Prelude.{List, None, Option, Some, [], is_none, is_some, length, map as mapped, nat_lt, slice_get, slice_index_or, suc, zero, ℕ, ℤ, ◌-◌, ◌||◌, ◌∷◌, ◌≡◌, ◌≤◌}
-use Rattle.core_state.specs.State.{CoreState, IsSession, IsTableOf, handle_of, schemas_of, seat_of, table_at}
-use Rattle.tuple_toaster.specs.Pushed.{all_moved_size}
-use Rattle.core_looks.specs.Due.{absent_due, busy_due, cells_found, changed_due, granted_due, handle_there_due, is_null, no_handle_due, null_due, row_now, taken_due, too_big_due, too_big_once}
-use Rattle.core_state.specs.Views.{held_value, row_seen}
-use Rattle.command_set.specs.Plain.{now_of, row_at, row_with, value_at, view_of}
-use Rattle.tuple_layout.specs.declared.cell.Cell.TheVariants.{Inline, Null, Out}
-use Rattle.toast_store.specs.Stores.{Store}
-use Rattle.core_looks.proofs.Views.{IsOpenAs, seen_is, there_is}
-use Rattle.command_set.specs.declared.state.Transaction.{Transaction}
-use Rattle.table_state.specs.Rows.{cell_value}
-use Rattle.command_set.specs.Answers.{with_use}
-use Rattle.core_looks.proofs.Since.{changed_same}
-use Rattle.core_looks.proofs.Found.{values_found}
-use Rattle.read_steps.specs.Reads.{cell_of}
+use Rattle.std.specs.FinMap as map
 use Rattle.std.specs.Option.{option_map, option_map_or, unwrap_or}
-use Rattle.core_state.specs.Stands.{Stands, row_in_table}
-use Rattle.command_set.specs.declared.Reply.{Reply}
-use Rattle.core_looks.proofs.Whole.{seen_long, seen_may}
-use Rattle.core_looks.proofs.Used.{copied_by}
+use Rattle.std.specs.Prelude.{List, None, Option, Some, [], is_none, is_some, length, map as mapped, nat_lt, slice_get, slice_index_or, suc, zero, ℕ, ℤ, ◌-◌, ◌||◌, ◌∷◌, ◌≡◌, ◌≤◌}
+use Rattle.tuple_layout.specs.Places.{Row}
+use Rattle.tuple_layout.specs.Schemas.{TableSchema}
 use Rattle.tuple_layout.specs.Sizes.{all_out_size, largest_tuple}
 use Rattle.tuple_layout.specs.Slices.{slice}
-use Rattle.command_set.specs.declared.state.Plain.{Plain}
-use Rattle.core_state.specs.declared.seat.Handle.{Handle}
-use Rattle.tuple_layout.specs.Schemas.{TableSchema}
-use Rattle.command_set.specs.declared.Set.{Set}
-use Rattle.core_state.specs.Begun.{cells_with, inserted_row, updated_row}
 use Rattle.tuple_layout.specs.Tuples.{cell_widths}
-use Rattle.core_looks.proofs.Firsts.{first_same, none_mapped, some_mapped, some_there, test_fails}
-use Rattle.command_set.specs.Changes.{place}
-use Rattle.tuple_layout.specs.Places.{Row}
 use Rattle.tuple_layout.specs.declared.Storage.{Storage}
-use Rattle.write_steps.specs.declared.stage.OldRow.{OldRow}
+use Rattle.tuple_layout.specs.declared.cell.Cell.{Cell}
+use Rattle.tuple_layout.specs.declared.cell.Cell.TheVariants.{Inline, Null, Out}
+use Rattle.tuple_toaster.specs.Pushed.{all_moved_size}
+use Rattle.toast_store.specs.Stores.{Store}
+use Rattle.command_set.specs.Answers.{with_use}
+use Rattle.command_set.specs.Changes.{place}
+use Rattle.command_set.specs.Plain.{now_of, row_at, row_with, value_at, view_of}
+use Rattle.command_set.specs.Replies.{absent, answers_if, bad_offset, busy, changed, first_of, granted, handle_there, no_handle, null, schema_of, taken, too_big}
 use Rattle.command_set.specs.declared.Command.{Command}
+use Rattle.command_set.specs.declared.Reply.{Reply}
+use Rattle.command_set.specs.declared.Set.{Set}
+use Rattle.command_set.specs.declared.state.Plain.{Plain}
+use Rattle.command_set.specs.declared.state.Transaction.{Transaction}
+use Rattle.table_state.specs.Rows.{cell_value}
 use Rattle.table_state.specs.declared.table.Table.{Table}
+use Rattle.read_steps.specs.Reads.{cell_of}
+use Rattle.write_steps.specs.declared.stage.OldRow.{OldRow}
+use Rattle.core_state.specs.Begun.{cells_with, inserted_row, updated_row}
+use Rattle.core_state.specs.Facts.{IsSound}
+use Rattle.core_state.specs.Stands.{Stands, row_in_table}
+use Rattle.core_state.specs.State.{CoreState, IsSession, IsTableOf, handle_of, schemas_of, seat_of, table_at}
+use Rattle.core_state.specs.Views.{held_value, row_seen}
+use Rattle.core_state.specs.declared.seat.Handle.{Handle}
+use Rattle.core_looks.proofs.Before.{IsBefore, before_at, in_use, opened_at, schema_is}
+use Rattle.core_looks.proofs.Claims.{claimer_is}
+use Rattle.core_looks.proofs.Firsts.{first_same, none_mapped, some_mapped, some_there, test_fails}
+use Rattle.core_looks.proofs.Found.{values_found}
+use Rattle.core_looks.proofs.Since.{changed_same}
+use Rattle.core_looks.proofs.Sizes.{inserted_size, updated_size}
+use Rattle.core_looks.proofs.Used.{copied_by}
+use Rattle.core_looks.proofs.Views.{IsOpenAs, seen_is, there_is}
+use Rattle.core_looks.proofs.Whole.{seen_long, seen_may}
+use Rattle.core_looks.specs.Due.{absent_due, busy_due, cells_found, changed_due, granted_due, handle_there_due, is_null, no_handle_due, null_due, row_now, taken_due, too_big_due, too_big_once}
 use Rattle.command_set.specs.declared.Command.TheVariants as commands
 use Rattle.command_set.specs.declared.Reply.TheVariants as replies
 use Rattle.command_set.specs.declared.state.Session.TheVariants as plain
-use Rattle.std.specs.FinMap as map
 
 -- ---- a row that is found
 

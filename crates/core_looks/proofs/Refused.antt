@@ -1,28 +1,28 @@
 -- The moments of commands that are refused: the core is sound after them, and stands for the plain store's answer.
 use Rattle.std.proofs.Common.{Bool, ap, inl, inr, refl, subst, sym, ◌∙◌}
-use Rattle.core_looks.proofs.Replies.{begin_due, commit_due, due_failed, due_outside, rollback_due}
-use Rattle.core_state.specs.State.{CoreState, IsSession, is_open, seat_of}
-use Rattle.core_state.specs.Events.{GivenUp, Looked, MomentLine, at_moment, line_due, line_granted, line_refused}
-use Rattle.core_state.proofs.Ended.{failed_bare}
-use Rattle.core_state.specs.Lines.{after_giving_up, after_looking, after_over, after_use, failed_state}
+use Rattle.std.specs.Prelude.{Option, [], false, if◌then◌else◌, true, ℕ, ◌≡◌}
+use Rattle.command_set.specs.Answers.{table_of}
+use Rattle.command_set.specs.Journals.{is_data}
+use Rattle.command_set.specs.Replies.{is_granted}
+use Rattle.command_set.specs.declared.Command.{Command}
 use Rattle.command_set.specs.declared.Level.{Level}
 use Rattle.command_set.specs.declared.Reply.{Reply}
-use Rattle.core_looks.proofs.Used.{session_used, sound_looked}
-use Rattle.core_looks.proofs.Refusing.{fails_by, is_refusal, open_kind, refusal_kind}
+use Rattle.core_state.proofs.Ended.{failed_bare}
+use Rattle.core_state.proofs.Overs.{sound_refused}
 use Rattle.core_state.proofs.Proved.{ends_keep, over_keeps}
-use Rattle.core_looks.proofs.Sights.{state_at}
+use Rattle.core_state.proofs.Seats.{seat_written}
+use Rattle.core_state.specs.Events.{GivenUp, Looked, MomentLine, at_moment, line_due, line_granted, line_refused}
+use Rattle.core_state.specs.Facts.{IsSound}
+use Rattle.core_state.specs.Lines.{after_giving_up, after_looking, after_over, after_use, failed_state}
+use Rattle.core_state.specs.State.{CoreState, IsSession, is_open, seat_of}
 use Rattle.core_state.specs.declared.seat.Seat.{Seat}
 use Rattle.core_state.specs.declared.seat.State.{State}
-use Rattle.command_set.specs.Replies.{is_granted}
-use Rattle.core_state.proofs.Seats.{seat_written}
 use Rattle.core_looks.proofs.Before.{fits_at}
-use Rattle.std.specs.Prelude.{Option, [], false, if◌then◌else◌, true, ℕ, ◌≡◌}
+use Rattle.core_looks.proofs.Refusing.{fails_by, is_refusal, open_kind, refusal_kind}
+use Rattle.core_looks.proofs.Replies.{begin_due, commit_due, due_failed, due_outside, rollback_due}
+use Rattle.core_looks.proofs.Sights.{state_at}
+use Rattle.core_looks.proofs.Used.{session_used, sound_looked}
 use Rattle.core_looks.specs.Due.{is_outside, reply_due}
-use Rattle.core_state.specs.Facts.{IsSound}
-use Rattle.command_set.specs.Answers.{table_of}
-use Rattle.core_state.proofs.Overs.{sound_refused}
-use Rattle.command_set.specs.Journals.{is_data}
-use Rattle.command_set.specs.declared.Command.{Command}
 use Rattle.command_set.specs.declared.Command.TheVariants as commands
 use Rattle.command_set.specs.declared.Reply.TheVariants as replies
 use Rattle.core_state.specs.declared.seat.Job.TheVariants as jobs

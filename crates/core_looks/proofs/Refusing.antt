@@ -1,28 +1,28 @@
 -- What refusals there are: none grants, and past the first two of a data command each fails the transaction, or has looked into a table.
-use Rattle.core_looks.specs.Due.{cells_found, claim_of, claimer_of, granted_due, has_changed, is_null, refusals_due, refusals_first, reply_due, row_now, too_big_due, too_big_once}
-use Rattle.core_state.specs.Events.{GivenUp, Looked, line_refused}
-use Rattle.command_set.specs.Replies.{answers_if, bad_offset, fails, first_of, is_granted}
-use Rattle.tuple_toaster.specs.Pushed.{all_moved_size}
-use Rattle.core_state.specs.State.{CoreState, handle_of, seat_of, table_at}
-use Rattle.core_state.specs.declared.seat.State.{State}
-use Rattle.command_set.specs.declared.Command.{Command}
-use Rattle.std.specs.Prelude.{List, None, Option, Some, [], false, is_none, is_some, negsuc, pos, true, ℕ, ℤ, ⊤, ◌++◌, ◌||◌, ◌∷◌, ◌≡◌, ◌⊎◌}
-use Rattle.core_looks.proofs.Before.{opens_by}
-use Rattle.tuple_layout.specs.declared.cell.Stored.{Stored}
-use Rattle.tuple_layout.specs.Tuples.{cell_widths}
-use Rattle.command_set.specs.declared.state.Plain.{Plain}
 use Rattle.std.proofs.Common.{Bool, ap, inl, inr, refl, subst, sym, ◌∙◌}
-use Rattle.core_state.specs.Begun.{inserted_row, updated_row}
-use Rattle.command_set.specs.Answers.{refused, table_of, with_failure}
-use Rattle.command_set.specs.declared.Reply.{Reply}
 use Rattle.std.specs.Option.{option_map, option_map_or}
-use Rattle.read_steps.specs.Reads.{cell_of}
+use Rattle.std.specs.Prelude.{List, None, Option, Some, [], false, is_none, is_some, negsuc, pos, true, ℕ, ℤ, ⊤, ◌++◌, ◌||◌, ◌∷◌, ◌≡◌, ◌⊎◌}
+use Rattle.tuple_layout.specs.Tuples.{cell_widths}
+use Rattle.tuple_layout.specs.declared.cell.Stored.{Stored}
+use Rattle.tuple_toaster.specs.Pushed.{all_moved_size}
+use Rattle.command_set.specs.Answers.{refused, table_of, with_failure}
 use Rattle.command_set.specs.Journals.{is_data}
-use Rattle.core_state.specs.Lines.{failed_state}
-use Rattle.core_state.specs.Views.{row_seen}
-use Rattle.core_looks.proofs.Sights.{state_at}
+use Rattle.command_set.specs.Replies.{answers_if, bad_offset, fails, first_of, is_granted}
+use Rattle.command_set.specs.declared.Command.{Command}
 use Rattle.command_set.specs.declared.Level.{Level}
+use Rattle.command_set.specs.declared.Reply.{Reply}
+use Rattle.command_set.specs.declared.state.Plain.{Plain}
+use Rattle.read_steps.specs.Reads.{cell_of}
 use Rattle.write_steps.specs.declared.stage.OldRow.{OldRow}
+use Rattle.core_state.specs.Begun.{inserted_row, updated_row}
+use Rattle.core_state.specs.Events.{GivenUp, Looked, line_refused}
+use Rattle.core_state.specs.Lines.{failed_state}
+use Rattle.core_state.specs.State.{CoreState, handle_of, seat_of, table_at}
+use Rattle.core_state.specs.Views.{row_seen}
+use Rattle.core_state.specs.declared.seat.State.{State}
+use Rattle.core_looks.proofs.Before.{opens_by}
+use Rattle.core_looks.proofs.Sights.{state_at}
+use Rattle.core_looks.specs.Due.{cells_found, claim_of, claimer_of, granted_due, has_changed, is_null, refusals_due, refusals_first, reply_due, row_now, too_big_due, too_big_once}
 use Rattle.command_set.specs.declared.Command.TheVariants as commands
 use Rattle.command_set.specs.declared.Reply.TheVariants as replies
 use Rattle.core_state.specs.declared.seat.State.TheVariants as states

@@ -1,32 +1,32 @@
 -- The plain store's reply at each command's moment is the one that is due.
 use Rattle.std.proofs.Common.{Bool, ap, refl, sym, ◌∙◌}
-use Rattle.command_set.specs.Answers.{answer, once_used, table_of, with_use}
-use Rattle.command_set.specs.Replies.{answers_if, failed, first_of, granted, outside, refusals, refused_before_use, reply_of}
-use Rattle.core_state.proofs.Answered.{begin_inside, begin_outside, commit_failed, commit_open, commit_outside, data_failed, data_outside, rollback_inside, rollback_outside, session_at_place}
 use Rattle.std.specs.Prelude.{List, None, Option, Some, [], false, length, not, true, ℕ, ◌++◌, ◌∷◌, ◌≡◌, ◌≢◌}
-use Rattle.core_state.specs.Facts.{IsSound, PartsAreSound}
-use Rattle.core_state.specs.State.{CoreState, IsSession, is_open, schemas_of, seat_of, table_at}
-use Rattle.core_looks.proofs.Before.{IsBefore, fits_at, in_use, opened_at, opens, opens_due, opens_with, reply_by, schema_is, session_in_use, table_in, used_at}
-use Rattle.lock_table.specs.Locks.{held_by}
-use Rattle.core_state.specs.Stands.{SessionStands, Stands}
-use Rattle.command_set.specs.declared.state.Transaction.{Transaction}
-use Rattle.core_looks.specs.Due.{failed_due, granted_due, is_outside, outside_due, refusals_due, refusals_first, reply_due, rolled_back_due}
-use Rattle.core_state.proofs.Standing.{ItsSession, its_session}
-use Rattle.core_state.proofs.Begins.{failed_of, inside_of, outside_of}
-use Rattle.core_looks.proofs.Firsts.{first_passes, first_stops}
-use Rattle.command_set.specs.Plain.{session_of}
-use Rattle.command_set.specs.declared.state.Answered.{Answered}
 use Rattle.tuple_layout.specs.Schemas.{TableSchema}
-use Rattle.core_state.specs.declared.seat.State.{State}
-use Rattle.command_set.specs.declared.state.Session.{Session}
-use Rattle.command_set.specs.declared.Level.{Level}
-use Rattle.core_state.specs.Commands.{IsFitting}
-use Rattle.core_looks.proofs.Sights.{state_at}
+use Rattle.lock_table.specs.Locks.{held_by}
+use Rattle.command_set.specs.Answers.{answer, once_used, table_of, with_use}
 use Rattle.command_set.specs.Journals.{is_data}
-use Rattle.command_set.specs.declared.state.Plain.{Plain}
-use Rattle.core_looks.proofs.Refusals.{close_rest, delete_rest, fetch_rest, finds_at, get_rest, insert_rest, open_rest, part_rest, rekey_rest, update_rest}
+use Rattle.command_set.specs.Plain.{session_of}
+use Rattle.command_set.specs.Replies.{answers_if, failed, first_of, granted, outside, refusals, refused_before_use, reply_of}
 use Rattle.command_set.specs.declared.Command.{Command}
+use Rattle.command_set.specs.declared.Level.{Level}
 use Rattle.command_set.specs.declared.Reply.{Reply}
+use Rattle.command_set.specs.declared.state.Answered.{Answered}
+use Rattle.command_set.specs.declared.state.Plain.{Plain}
+use Rattle.command_set.specs.declared.state.Session.{Session}
+use Rattle.command_set.specs.declared.state.Transaction.{Transaction}
+use Rattle.core_state.proofs.Answered.{begin_inside, begin_outside, commit_failed, commit_open, commit_outside, data_failed, data_outside, rollback_inside, rollback_outside, session_at_place}
+use Rattle.core_state.proofs.Begins.{failed_of, inside_of, outside_of}
+use Rattle.core_state.proofs.Standing.{ItsSession, its_session}
+use Rattle.core_state.specs.Commands.{IsFitting}
+use Rattle.core_state.specs.Facts.{IsSound, PartsAreSound}
+use Rattle.core_state.specs.Stands.{SessionStands, Stands}
+use Rattle.core_state.specs.State.{CoreState, IsSession, is_open, schemas_of, seat_of, table_at}
+use Rattle.core_state.specs.declared.seat.State.{State}
+use Rattle.core_looks.proofs.Before.{IsBefore, fits_at, in_use, opened_at, opens, opens_due, opens_with, reply_by, schema_is, session_in_use, table_in, used_at}
+use Rattle.core_looks.proofs.Firsts.{first_passes, first_stops}
+use Rattle.core_looks.proofs.Refusals.{close_rest, delete_rest, fetch_rest, finds_at, get_rest, insert_rest, open_rest, part_rest, rekey_rest, update_rest}
+use Rattle.core_looks.proofs.Sights.{state_at}
+use Rattle.core_looks.specs.Due.{failed_due, granted_due, is_outside, outside_due, refusals_due, refusals_first, reply_due, rolled_back_due}
 use Rattle.command_set.specs.declared.Command.TheVariants as commands
 use Rattle.command_set.specs.declared.Reply.TheVariants as replies
 use Rattle.command_set.specs.declared.state.Session.TheVariants as plain

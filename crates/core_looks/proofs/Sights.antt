@@ -2,8 +2,8 @@
 use Rattle.std.proofs.Common.{ap, arith, inl, inr, refl, subst}
 use Rattle.std.proofs.lemmas.Bool.{cases_Bool}
 use Rattle.std.proofs.lemmas.List.Elements.{Contains-get_or}
-use Rattle.std.specs.Prelude.{None, Option, Some, false, is_some, suc, true, zero, ℕ, ℤ, ◌≡◌}
 use Rattle.std.specs.Option.{option_map, option_map_or}
+use Rattle.std.specs.Prelude.{None, Option, Some, false, is_some, suc, true, zero, ℕ, ℤ, ◌≡◌}
 use Rattle.slot_page.specs.declared.line.Tid.{Tid}
 use Rattle.xact_status.specs.Versions.{counts_for}
 use Rattle.xact_status.specs.Xacts.{session_at}
@@ -23,8 +23,8 @@ use Rattle.core_state.proofs.Lists.{read_there}
 use Rattle.core_state.proofs.Seats.{sound_of}
 use Rattle.core_state.specs.Facts.{IsSound, IsTableMade, PartsAreSound}
 use Rattle.core_state.specs.State.{CoreState, IsSession, IsTableOf, no_table, seat_of, snapshot_of, table_at, xid_of}
-use Rattle.core_state.specs.declared.seat.State.{State}
 use Rattle.core_state.specs.Views.{counts_under, in_sight, in_view, registered}
+use Rattle.core_state.specs.declared.seat.State.{State}
 use Rattle.core_looks.specs.Due.{claim_of}
 
 -- ---- tables by their numbers

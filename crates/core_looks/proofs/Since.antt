@@ -1,38 +1,36 @@
 -- Whether a found row has changed since the transaction's snapshot: the end of its version has committed, and the transaction has not changed the row.
 use Rattle.std.proofs.Common.{Bool, ap, refl, subst, sym, ◌∙◌}
+use Rattle.std.specs.Option.{option_map_or}
+use Rattle.std.specs.Prelude.{None, Option, Some, false, is_some, not, true, ℕ, ℤ, ◌&&◌, ◌≡◌}
 use Rattle.tuple_layout.specs.Places.{Rows}
-use Rattle.std.specs.Prelude.{List, None, Option, Some, [], false, is_some, not, true, ℕ, ℤ, ◌&&◌, ◌≡◌}
+use Rattle.slot_page.specs.declared.line.Tid.{Tid}
+use Rattle.xact_status.specs.Versions.{is_there}
+use Rattle.xact_status.specs.Xacts.{is_committed}
+use Rattle.snapshot_registry.specs.Snapshots.{committed_in, takes_effect}
+use Rattle.snapshot_registry.specs.declared.Snapshot.{Snapshot}
+use Rattle.row_versions.specs.declared.version.Version.{Version}
+use Rattle.lock_table.specs.Held.{holds_row}
 use Rattle.lock_table.specs.Locks.{held_by}
 use Rattle.command_set.specs.Answers.{with_copy, with_use}
-use Rattle.xact_status.specs.Xacts.{is_committed}
-use Rattle.core_looks.specs.Due.{changed_due, claim_of, has_changed, is_ended_at}
-use Rattle.core_state.specs.State.{CoreState, IsSession, snapshot_of, table_at, xid_of}
-use Rattle.core_state.specs.Facts.{IsSound}
-use Rattle.core_looks.proofs.Sights.{pages_at, state_at, untouched}
-use Rattle.table_rows.specs.Views.{IsSince}
-use Rattle.slot_page.specs.declared.line.Tid.{Tid}
-use Rattle.core_state.specs.Views.{counts_under, in_view, registered, row_seen}
-use Rattle.xact_status.specs.Versions.{is_there}
-use Rattle.snapshot_registry.specs.Snapshots.{committed_in, takes_effect}
-use Rattle.command_set.specs.Replies.{answers_if, changed}
-use Rattle.command_set.specs.declared.state.Change.{Change}
 use Rattle.command_set.specs.Changes.{is_named, keys_of, place}
+use Rattle.command_set.specs.Replies.{answers_if, changed}
+use Rattle.command_set.specs.declared.state.Plain.{Plain}
+use Rattle.command_set.specs.declared.state.Transaction.{Transaction}
+use Rattle.table_rows.proofs.Views.{agree_unwritten}
+use Rattle.table_rows.specs.Views.{IsSince}
+use Rattle.table_rows.specs.Worlds.{IsVersionAt}
+use Rattle.write_steps.specs.declared.stage.OldRow.{OldRow}
+use Rattle.core_state.specs.Facts.{IsSound}
+use Rattle.core_state.specs.Lines.{takes_copy}
+use Rattle.core_state.specs.Stands.{CopyStands}
+use Rattle.core_state.specs.State.{CoreState, IsSession, snapshot_of, table_at, xid_of}
+use Rattle.core_state.specs.Views.{counts_under, in_view, registered, row_seen}
+use Rattle.core_looks.proofs.Found.{found_is}
+use Rattle.core_looks.proofs.Sights.{pages_at, state_at, untouched}
 use Rattle.core_looks.proofs.Used.{copied_taken, copy_plain}
 use Rattle.core_looks.proofs.Uses.{TakesCopy, takes_is}
-use Rattle.command_set.specs.declared.state.Plain.{Plain}
-use Rattle.table_rows.proofs.Views.{agree_unwritten}
-use Rattle.core_state.specs.Stands.{CopyStands}
-use Rattle.lock_table.specs.Held.{holds_row}
-use Rattle.std.specs.Option.{option_map_or}
-use Rattle.snapshot_registry.specs.declared.Snapshot.{Snapshot}
-use Rattle.core_looks.proofs.Found.{found_is}
-use Rattle.row_versions.specs.declared.version.Version.{Version}
-use Rattle.tuple_layout.specs.declared.Place.{Place}
-use Rattle.write_steps.specs.declared.stage.OldRow.{OldRow}
 use Rattle.core_looks.proofs.Views.{IsOpenAs}
-use Rattle.command_set.specs.declared.state.Transaction.{Transaction}
-use Rattle.core_state.specs.Lines.{takes_copy}
-use Rattle.table_rows.specs.Worlds.{IsVersionAt}
+use Rattle.core_looks.specs.Due.{changed_due, claim_of, has_changed, is_ended_at}
 use Rattle.command_set.specs.declared.Reply.TheVariants as replies
 
 -- ---- a version that is seen
@@ -75,10 +73,6 @@ test_same c m s t key tr old (Some snapshot) (Some base) there sound opened seen
     by : (b : Bool) → holds_row (held_by c.locks s).rows (claim_of t key) ≡ b → (is_named tr.since (place t key) && not b) ≡ (is_ended_at c.xacts (table_at c.tables t) old.tid && not b)
     by true claimed = never (is_named tr.since (place t key)) (is_ended_at c.xacts (table_at c.tables t) old.tid)
     by false unclaimed = ap (λ (b : Bool). b && true) (since_is c s t key snapshot old (is_named tr.since (place t key)) there sound shown unclaimed seen (copy.since (place t key)))
-
--- a transaction that takes its copy now has changed since at no place
-fresh_same : (changes : List Change) (latest : Rows) (p : Place) → (is_some (Some latest) && is_named [] p && not (is_named (keys_of changes) p)) ≡ false
-fresh_same changes latest p = refl
 
 pub changed_same : (c : CoreState) (m : Plain) (s t : ℕ) (key : ℤ) (tr : Transaction) (old : OldRow) → IsSession c.seats s → IsSound c → IsOpenAs c m s tr → row_seen c s t key ≡ Some old
     → changed (with_use m tr t) (place t key) ≡ changed_due c s t key (Some old)

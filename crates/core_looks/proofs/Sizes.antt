@@ -1,29 +1,29 @@
 -- The size of a row with every column out of line that may be, by its cells and by its values.
 use Rattle.std.proofs.Common.{Bool, ap, arith, refl, subst, sym, ◌∙◌}
-use Rattle.std.specs.List.{enumerate_from}
-use Rattle.tuple_layout.specs.declared.cell.Cell.TheVariants.{Inline, Null, Out}
-use Rattle.std.specs.Prelude.{List, None, Option, Some, [], false, length, map as mapped, slice_get, suc, true, zero, ℕ, ◌+◌, ◌-◌, ◌∷◌, ◌≡◌, ◌≤◌}
-use Rattle.std.specs.Option.{option_map, option_map_or, unwrap_or}
+use Rattle.std.proofs.lemmas.Bool.{le-leb}
+use Rattle.std.proofs.lemmas.List.{length-map}
 use Rattle.std.proofs.lemmas.Option.{slice_get-map}
-use Rattle.tuple_toaster.specs.Pushed.{all_moved_size}
+use Rattle.std.specs.List.{enumerate_from}
+use Rattle.std.specs.Option.{option_map, option_map_or, unwrap_or}
+use Rattle.std.specs.Prelude.{List, None, Option, Some, [], false, length, map as mapped, slice_get, suc, true, zero, ℕ, ◌+◌, ◌-◌, ◌∷◌, ◌≡◌, ◌≤◌}
+use Rattle.external_pointer.specs.declared.external.Pointer.{Pointer}
+use Rattle.tuple_layout.specs.Places.{Row}
 use Rattle.tuple_layout.specs.Sizes.{Width, all_out_size, is_eligible, least_out, width, widths}
+use Rattle.tuple_layout.specs.Tuples.{cell_width, cell_widths}
+use Rattle.tuple_layout.specs.Tuples.{is_outside}
+use Rattle.tuple_layout.specs.declared.Storage.{Storage}
+use Rattle.tuple_layout.specs.declared.Storage.TheVariants.{External}
+use Rattle.tuple_layout.specs.declared.cell.Cell.{Cell}
+use Rattle.tuple_layout.specs.declared.cell.Cell.TheVariants.{Inline, Null, Out}
+use Rattle.tuple_toaster.proofs.AllOut.{one_size}
+use Rattle.tuple_toaster.specs.Kept.{is_out_column}
+use Rattle.tuple_toaster.specs.Pushed.{all_moved_size}
+use Rattle.toast_store.specs.Stores.{Store}
+use Rattle.toast_store.specs.Values.{value_in}
+use Rattle.command_set.specs.Plain.{row_with, value_set}
 use Rattle.command_set.specs.declared.Set.{Set}
 use Rattle.table_state.specs.Rows.{cell_value}
-use Rattle.toast_store.specs.Values.{value_in}
-use Rattle.tuple_layout.specs.Tuples.{cell_width, cell_widths}
-use Rattle.tuple_layout.specs.Places.{Row}
-use Rattle.tuple_layout.specs.declared.Storage.TheVariants.{External}
-use Rattle.toast_store.specs.Stores.{Store}
-use Rattle.tuple_layout.specs.declared.cell.Cell.{Cell}
-use Rattle.tuple_toaster.specs.Kept.{is_out_column}
-use Rattle.command_set.specs.Plain.{row_with, value_set}
-use Rattle.std.proofs.lemmas.List.{length-map}
-use Rattle.tuple_layout.specs.declared.Storage.{Storage}
-use Rattle.external_pointer.specs.declared.external.Pointer.{Pointer}
-use Rattle.std.proofs.lemmas.Bool.{le-leb}
-use Rattle.tuple_layout.specs.Tuples.{is_outside}
 use Rattle.core_state.specs.Begun.{cell_in_line, cells_with}
-use Rattle.tuple_toaster.proofs.AllOut.{one_size}
 
 -- ---- the values of changed cells
 

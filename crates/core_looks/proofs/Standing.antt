@@ -1,6 +1,7 @@
 -- What a core stands for after an event that changes one session's seat and locks, and the registered snapshots.
 use Rattle.std.proofs.Common.{ap, arith, inl, inr, subst, sym, ◌∙◌}
 use Rattle.std.proofs.lemmas.List.{length-set}
+use Rattle.std.specs.FinMap as map
 use Rattle.std.specs.Prelude.{List, Option, Some, length, slice_get, suc, ℕ, ◌-◌, ◌≡◌, ◌≢◌}
 use Rattle.list_facts.proofs.Changed.{after_set}
 use Rattle.tuple_layout.specs.Places.{Rows}
@@ -24,7 +25,6 @@ use Rattle.core_state.specs.State.{CoreState, IsSession, snapshot_of}
 use Rattle.core_state.specs.Views.{registered}
 use Rattle.core_state.specs.declared.seat.Seat.{Seat}
 use Rattle.core_state.specs.declared.seat.State.{State}
-use Rattle.std.specs.FinMap as map
 use Rattle.command_set.specs.declared.state.Session.TheVariants as plain
 use Rattle.core_state.specs.declared.seat.State.TheVariants as states
 

@@ -1,64 +1,64 @@
 -- A core whose session uses a table stands for the state in which the plain store's transaction does, and shows the session what it showed.
 use Rattle.std.proofs.Common.{Bool, ap, refl, subst, sym, ◌∙◌}
-use Rattle.core_looks.specs.Laws.{IsUsed}
-use Rattle.core_looks.proofs.Uses.{TakesCopy, effect_now, open_with, registered_new, registered_taken, repeatable_with, snapshot_with, sound_used, takes_is, xid_with}
-use Rattle.snapshot_registry.specs.declared.Snapshot.{Snapshot}
-use Rattle.command_set.specs.declared.Reply.{Reply}
-use Rattle.core_looks.proofs.Locks.{locks_used, rows_own, use_of, uses_own}
-use Rattle.table_rows.proofs.Moments.{taken_at}
-use Rattle.snapshot_registry.specs.Snapshots.{Snaps, after_take, committed_in, held_at, least_free, snapshot_now}
-use Rattle.command_set.specs.Changes.{fold_changes, is_named, keys_of, outcome, said}
-use Rattle.command_set.specs.Answers.{with_copy, with_use}
-use Rattle.std.specs.Prelude.{List, None, Option, Some, [], false, if◌then◌else◌, is_some, slice_get, slice_set, true, ℕ, ℤ, ◌++◌, ◌-◌, ◌==◌, ◌||◌, ◌∷◌, ◌≡◌}
-use Rattle.core_state.specs.Views.{counts_under, found_row, in_view, registered, row_at, row_seen}
-use Rattle.core_state.proofs.Seats.{seat_there, seat_written, session_written}
-use Rattle.core_looks.proofs.Views.{IsOpenAs, open_as, there_is}
-use Rattle.table_state.specs.declared.table.Table.{Table}
-use Rattle.core_state.proofs.Standing.{ItsSession, its_session, session_by, stands_seated}
+use Rattle.std.proofs.lemmas.List.{length-set}
+use Rattle.std.proofs.lemmas.List.Folds.{list_any-append}
+use Rattle.std.specs.FinMap as map
+use Rattle.std.specs.List.{list_any}
 use Rattle.std.specs.Option.{option_map, unwrap_or}
+use Rattle.std.specs.Prelude.{List, None, Option, Some, [], false, if◌then◌else◌, is_some, slice_get, slice_set, true, ℕ, ℤ, ◌++◌, ◌-◌, ◌==◌, ◌||◌, ◌∷◌, ◌≡◌}
+use Rattle.list_facts.proofs.Changed.{get_set_other, set_same}
+use Rattle.tuple_layout.specs.Places.{Rows}
+use Rattle.tuple_layout.specs.declared.Place.{Place}
+use Rattle.xact_status.specs.Versions.{counts_for}
+use Rattle.xact_status.specs.Xacts.{Xacts, is_committed}
+use Rattle.snapshot_registry.specs.Snapshots.{Snaps, after_take, committed_in, held_at, least_free, snapshot_now}
+use Rattle.snapshot_registry.specs.declared.Held.{Held}
+use Rattle.snapshot_registry.specs.declared.Snapshot.{Snapshot}
+use Rattle.change_log.specs.declared.entry.LogEntry.{LogEntry}
+use Rattle.lock_table.proofs.Holders.{granted_other}
+use Rattle.lock_table.specs.Held.{holds_row, holds_table}
+use Rattle.lock_table.specs.Locks.{held_by, table_lock}
+use Rattle.lock_table.specs.declared.held.SessionLocks.{SessionLocks}
+use Rattle.lock_table.specs.declared.lock.LockMode.TheVariants.{Use}
+use Rattle.lock_table.specs.declared.lock.RowKey.{RowKey}
+use Rattle.command_set.specs.Answers.{with_copy, with_use}
+use Rattle.command_set.specs.Changes.{fold_changes, is_named, keys_of, outcome, said}
+use Rattle.command_set.specs.Plain.{session_of, with_session}
+use Rattle.command_set.specs.declared.Command.{Command}
+use Rattle.command_set.specs.declared.Level.{Level}
+use Rattle.command_set.specs.declared.Reply.{Reply}
+use Rattle.command_set.specs.declared.state.Change.{Change}
+use Rattle.command_set.specs.declared.state.Plain.{Plain}
+use Rattle.command_set.specs.declared.state.Session.{Session}
+use Rattle.command_set.specs.declared.state.Transaction.{Transaction}
+use Rattle.table_rows.proofs.Moments.{taken_at}
+use Rattle.table_rows.proofs.Sessions.{since_taken}
+use Rattle.table_rows.specs.Worlds.{tuple_in}
+use Rattle.table_state.specs.Rows.{row_of}
+use Rattle.table_state.specs.declared.table.Table.{Table}
+use Rattle.core_state.proofs.Answered.{sessions_same, sessions_set}
+use Rattle.core_state.proofs.Moved.{state_uses}
+use Rattle.core_state.proofs.Overs.{sound_refused}
+use Rattle.core_state.proofs.Seats.{seat_there, seat_written, session_written}
+use Rattle.core_state.proofs.Standing.{ItsSession, its_session, session_by, stands_seated}
+use Rattle.core_state.proofs.Uses.{registered_use}
+use Rattle.core_state.specs.Facts.{IsSound}
+use Rattle.core_state.specs.Lines.{after_looking, after_use, seated, takes_copy, with_snapshot}
 use Rattle.core_state.specs.Stands.{CopyStands, HasCopy, SessionStands, Stands, TransactionStands, coming, logged_changes, pending_of}
 use Rattle.core_state.specs.State.{CoreState, IsSession, is_open, is_past_moment, is_repeatable, seat_of, snapshot_of, table_at, xid_of}
-use Rattle.command_set.specs.declared.state.Change.{Change}
-use Rattle.command_set.specs.Plain.{session_of, with_session}
-use Rattle.lock_table.proofs.Holders.{granted_other}
-use Rattle.core_state.specs.Lines.{after_looking, after_use, seated, takes_copy, with_snapshot}
-use Rattle.std.proofs.lemmas.List.{length-set}
-use Rattle.core_state.specs.declared.seat.State.{State}
-use Rattle.std.specs.List.{list_any}
-use Rattle.std.proofs.lemmas.List.Folds.{list_any-append}
+use Rattle.core_state.specs.Views.{counts_under, found_row, in_view, registered, row_at, row_seen}
 use Rattle.core_state.specs.declared.seat.Seat.{Seat}
-use Rattle.snapshot_registry.specs.declared.Held.{Held}
-use Rattle.table_rows.proofs.Sessions.{since_taken}
-use Rattle.core_state.specs.Facts.{IsSound}
-use Rattle.tuple_layout.specs.Places.{Rows}
-use Rattle.change_log.specs.declared.entry.LogEntry.{LogEntry}
+use Rattle.core_state.specs.declared.seat.State.{State}
+use Rattle.core_looks.proofs.Locks.{locks_used, rows_own, use_of, uses_own}
 use Rattle.core_looks.proofs.Sights.{state_at}
-use Rattle.core_state.proofs.Uses.{registered_use}
-use Rattle.table_rows.specs.Worlds.{tuple_in}
-use Rattle.command_set.specs.declared.state.Plain.{Plain}
-use Rattle.list_facts.proofs.Changed.{get_set_other, set_same}
-use Rattle.lock_table.specs.Locks.{held_by, table_lock}
-use Rattle.core_state.proofs.Answered.{sessions_same, sessions_set}
-use Rattle.command_set.specs.declared.state.Session.{Session}
-use Rattle.lock_table.specs.Held.{holds_row, holds_table}
-use Rattle.table_state.specs.Rows.{row_of}
-use Rattle.core_state.proofs.Moved.{state_uses}
-use Rattle.lock_table.specs.declared.held.SessionLocks.{SessionLocks}
-use Rattle.xact_status.specs.Xacts.{Xacts, is_committed}
-use Rattle.tuple_layout.specs.declared.Place.{Place}
-use Rattle.lock_table.specs.declared.lock.RowKey.{RowKey}
-use Rattle.command_set.specs.declared.Level.{Level}
-use Rattle.xact_status.specs.Versions.{counts_for}
-use Rattle.command_set.specs.declared.state.Transaction.{Transaction}
-use Rattle.lock_table.specs.declared.lock.LockMode.TheVariants.{Use}
-use Rattle.command_set.specs.declared.Command.{Command}
-use Rattle.core_state.proofs.Overs.{sound_refused}
 use Rattle.core_looks.proofs.Standing.{stands_moved}
+use Rattle.core_looks.proofs.Uses.{TakesCopy, effect_now, open_with, registered_new, registered_taken, repeatable_with, snapshot_with, sound_used, takes_is, xid_with}
+use Rattle.core_looks.proofs.Views.{IsOpenAs, open_as, there_is}
+use Rattle.core_looks.specs.Laws.{IsUsed}
+use Rattle.command_set.specs.declared.Level.TheVariants as levels
 use Rattle.command_set.specs.declared.state.Session.TheVariants as plain
 use Rattle.core_state.specs.declared.seat.Job.TheVariants as jobs
 use Rattle.core_state.specs.declared.seat.State.TheVariants as states
-use Rattle.command_set.specs.declared.Level.TheVariants as levels
-use Rattle.std.specs.FinMap as map
 
 -- ---- the plain store's transaction
 
@@ -131,8 +131,8 @@ shown_rows : (tables : List Table) (counts later : ℕ → Bool) (p : Place) →
 shown_rows tables counts later p same = ap (option_map (row_of (table_at tables p.table).rows.schema.storages (table_at tables p.table).toast)) same
 
 -- where it takes one it has the committed rows
-copy_taken : (c : CoreState) (m : Plain) (replies : List (Option Reply)) (tr : Transaction) → Stands c m replies → HasCopy c.xacts c.tables (snapshot_now c.xacts) m.latest []
-copy_taken c m replies tr stands = record {
+copy_taken : (c : CoreState) (m : Plain) (replies : List (Option Reply)) → Stands c m replies → HasCopy c.xacts c.tables (snapshot_now c.xacts) m.latest []
+copy_taken c m replies stands = record {
   rows = λ p. stands.latest p ∙ sym (shown_rows c.tables (is_committed c.xacts) (committed_in c.xacts (snapshot_now c.xacts)) p (taken_at c.xacts (snapshot_now c.xacts) (table_at c.tables p.table).rows.pages p.key refl));
   since = λ p. since_taken c.xacts (snapshot_now c.xacts) (table_at c.tables p.table).rows.pages p.key refl;
 }
@@ -187,7 +187,7 @@ stands_used c m replies s t tr there before sound stands is = by (takes_copy (st
     taken_copy takes =
         let shows : registered (after_take c.snaps c.xacts) (snapshot_of (with_snapshot (state_at c s) (least_free c.snaps))) ≡ Some (snapshot_now c.xacts) = ap (registered (after_take c.snaps c.xacts)) (snapshot_with (state_at c s) (least_free c.snaps) (ap is_open opened.is)) ∙ registered_new c.snaps c.xacts in
         subst (λ (x : Transaction). CopyStands c.xacts c.tables (registered (after_take c.snaps c.xacts) (snapshot_of (with_snapshot (state_at c s) (least_free c.snaps)))) x.base x.since) (sym (copied_taken c m s tr takes opened))
-        (subst (λ (o : Option Snapshot). CopyStands c.xacts c.tables o (Some m.latest) []) (sym shows) (copy_taken c m replies tr stands))
+        (subst (λ (o : Option Snapshot). CopyStands c.xacts c.tables o (Some m.latest) []) (sym shows) (copy_taken c m replies stands))
 
     by : (b : Bool) → takes_copy (state_at c s) ≡ b → Stands (used_by b c s t) (with_session m s new) replies
     by true e =

@@ -92,8 +92,8 @@ holders_taken snaps xacts id = by (id == least_free snaps) refl
         let old = at false e in
         let apart : id ≢ least_free snaps = grind (arith, nat_tests, e) in
         let differ : (least_free snaps == id) ≡ false = grind (arith, nat_tests, apart) in
-        let zero_ : one_if (least_free snaps == id) ≡ 0 = ap one_if differ in
-        omega (arith, old, zero_)
+        let unused : one_if (least_free snaps == id) ≡ 0 = ap one_if differ in
+        omega (arith, old, unused)
 
 back_taken : (c : CoreState) (i : ℕ) (seat : Seat) → slice_get c.seats i ≡ Some seat → IsSound c → ShowsBack c.snaps (after_take c.snaps c.xacts) (uses_of seat)
 back_taken c i seat at sound id held used is = (held, sym (held_taken c.snaps c.xacts id (registered_use c i seat id at used sound)) ∙ is, refl)

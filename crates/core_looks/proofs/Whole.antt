@@ -1,35 +1,35 @@
 -- The values of a row that a session sees are whole, and stand where values may.
 use Rattle.std.proofs.Common.{ap, arith, refl, subst, sym, ◌∙◌}
-use Rattle.snapshot_registry.specs.Snapshots.{is_protected, sees_at, takes_effect}
-use Rattle.tuple_layout.specs.declared.Storage.{Storage}
+use Rattle.std.specs.Option.{option_map_or}
 use Rattle.std.specs.Prelude.{Contains, List, None, Option, Some, [], false, is_some, length, slice_get, suc, true, zero, ℕ, ℤ, ◌∷◌, ◌≡◌, ◌≤◌}
+use Rattle.list_facts.proofs.Members.{first_in, later_in}
+use Rattle.external_pointer.specs.declared.external.Pointer.{Pointer}
+use Rattle.tuple_layout.specs.Sizes.{least_out}
+use Rattle.tuple_layout.specs.declared.Storage.{Storage}
+use Rattle.tuple_layout.specs.declared.Storage.TheVariants.{External, Plain}
+use Rattle.tuple_layout.specs.declared.cell.Cell.{Cell}
+use Rattle.tuple_layout.specs.declared.cell.Cell.TheVariants.{Inline, Null, Out}
+use Rattle.tuple_layout.specs.declared.cell.Stored.{Stored}
+use Rattle.slot_page.specs.Pages.{item_in}
+use Rattle.xact_status.specs.Versions.{is_there}
+use Rattle.snapshot_registry.specs.Snapshots.{is_protected, sees_at, takes_effect}
+use Rattle.snapshot_registry.specs.declared.Held.{Held}
+use Rattle.snapshot_registry.specs.declared.Snapshot.{Snapshot}
+use Rattle.value_holders.proofs.Readers.{readers_are_safe}
+use Rattle.value_holders.specs.Stamps.{Runs}
+use Rattle.row_versions.specs.declared.version.Version.{Version}
+use Rattle.toast_store.specs.Values.{Whole, value_in}
+use Rattle.table_rows.specs.Steps.{stamp_of}
+use Rattle.table_state.specs.Rows.{pointers_in}
+use Rattle.table_state.specs.Tables.{AreCellsOf, IsCellOf, cells_of, toast_rel_of}
+use Rattle.write_steps.specs.declared.stage.OldRow.{OldRow}
+use Rattle.core_state.proofs.Seats.{sound_of}
+use Rattle.core_state.specs.Facts.{IsSound}
 use Rattle.core_state.specs.State.{CoreState, IsSession, IsTableOf, snapshot_of, table_at, xid_of}
 use Rattle.core_state.specs.Views.{counts_under, in_view, registered, row_seen}
-use Rattle.core_looks.proofs.Sights.{pages_at, registered_is, state_at, table_sound}
-use Rattle.tuple_layout.specs.Sizes.{least_out}
-use Rattle.core_state.proofs.Seats.{sound_of}
-use Rattle.table_state.specs.Tables.{AreCellsOf, IsCellOf, cells_of, toast_rel_of}
-use Rattle.list_facts.proofs.Members.{first_in, later_in}
-use Rattle.snapshot_registry.specs.declared.Held.{Held}
-use Rattle.toast_store.specs.Values.{Whole, value_in}
-use Rattle.std.specs.Option.{option_map_or}
-use Rattle.write_steps.specs.declared.stage.OldRow.{OldRow}
-use Rattle.xact_status.specs.Versions.{is_there}
 use Rattle.core_looks.proofs.Found.{found_is}
-use Rattle.table_rows.specs.Steps.{stamp_of}
-use Rattle.tuple_layout.specs.declared.Storage.TheVariants.{External, Plain}
-use Rattle.slot_page.specs.Pages.{item_in}
-use Rattle.core_state.specs.Facts.{IsSound}
+use Rattle.core_looks.proofs.Sights.{pages_at, registered_is, state_at, table_sound}
 use Rattle.core_looks.proofs.Sizes.{MayStand}
-use Rattle.table_state.specs.Rows.{pointers_in}
-use Rattle.tuple_layout.specs.declared.cell.Cell.TheVariants.{Inline, Null, Out}
-use Rattle.row_versions.specs.declared.version.Version.{Version}
-use Rattle.tuple_layout.specs.declared.cell.Stored.{Stored}
-use Rattle.external_pointer.specs.declared.external.Pointer.{Pointer}
-use Rattle.value_holders.specs.Stamps.{Runs}
-use Rattle.snapshot_registry.specs.declared.Snapshot.{Snapshot}
-use Rattle.tuple_layout.specs.declared.cell.Cell.{Cell}
-use Rattle.value_holders.proofs.Readers.{readers_are_safe}
 
 runs_of : (c : CoreState) (s : ℕ) (own : Option ℕ) → IsSession c.seats s → IsSound c → xid_of (state_at c s) ≡ own → Runs c.xacts own
 runs_of c s None there sound mine = tt

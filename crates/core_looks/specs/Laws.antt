@@ -1,9 +1,11 @@
 -- What a session's uses and look-ups keep of a core and tell of the plain store, the reply of each moment, and the moments that are refused.
+use Rattle.std.specs.FinMap as map
 use Rattle.std.specs.Option.{option_map}
 use Rattle.std.specs.Prelude.{List, Option, Some, false, map as mapped, slice_set, true, ℕ, ℤ, ◌-◌, ◌<◌, ◌≡◌}
 use Rattle.command_set.specs.Answers.{answer, effect, once_used, table_of, with_use}
 use Rattle.command_set.specs.Changes.{place}
 use Rattle.command_set.specs.Plain.{now_of, session_of, view_of, with_session}
+use Rattle.command_set.specs.Replies.{granted, is_granted, transaction_of}
 use Rattle.command_set.specs.declared.Command.{Command}
 use Rattle.command_set.specs.declared.Reply.{Reply}
 use Rattle.command_set.specs.declared.state.Answered.{Answered}
@@ -12,20 +14,18 @@ use Rattle.command_set.specs.declared.state.Session.TheVariants.{Open}
 use Rattle.command_set.specs.declared.state.Transaction.{Transaction}
 use Rattle.table_state.specs.Rows.{cell_value}
 use Rattle.write_steps.specs.declared.stage.OldRow.{OldRow}
+use Rattle.core_state.specs.Events.{at_moment, left, line_due}
 use Rattle.core_state.specs.Facts.{IsSound, PartsAreSound}
 use Rattle.core_state.specs.Lines.{after_commit_of, after_looking, after_use, takes_copy}
+use Rattle.core_state.specs.Moves.{Runs}
 use Rattle.core_state.specs.Stands.{Stands}
 use Rattle.core_state.specs.State.{CoreState, IsSession, IsTableOf, is_open, is_past_moment, is_repeatable, schemas_of, seat_of, table_at, xid_of}
 use Rattle.core_state.specs.Views.{in_view, row_seen}
 use Rattle.core_looks.specs.Due.{reply_due, row_now}
-use Rattle.core_state.specs.Moves.{Runs}
-use Rattle.core_state.specs.Events.{at_moment, left, line_due}
-use Rattle.command_set.specs.Replies.{granted, is_granted, transaction_of}
-use Rattle.std.specs.FinMap as map
-use Rattle.core_state.specs.declared.seat.Job.TheVariants as jobs
-use Rattle.core_state.specs.declared.advance.Advance.TheVariants as advances
 use Rattle.command_set.specs.declared.Command.TheVariants as commands
 use Rattle.command_set.specs.declared.Reply.TheVariants as replies
+use Rattle.core_state.specs.declared.advance.Advance.TheVariants as advances
+use Rattle.core_state.specs.declared.seat.Job.TheVariants as jobs
 
 -- ---- uses
 

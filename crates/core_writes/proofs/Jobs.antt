@@ -161,7 +161,7 @@ saving_sound c s t x old new held state there sound mine its before begins claim
   dropping = λ pointer f. absurd (none_in_nil pointer f);
 }
 saving_sound c s t x old new held state there sound mine its before begins claimed (Some column) e = record {
-  own = record { session = refl; of_table = refl; xid = its; stage = saving_at (owner_of t s x) new (plan_for (storages_at c t) new) 0 column (bytes_of (cell_of new.cells column)) e (can_push (storages_at c t) new (begins.can new refl)); mark = tt; claimed = claimed };
+  own = record { session = refl; of_table = refl; xid = its; stage = saving_at (owner_of t s x) new (plan_for (storages_at c t) new) 0 column (bytes_of (cell_of new.cells column)) e (can_push (storages_at c t) new (begins.can new refl).one_each (begins.can new refl).limits); mark = tt; claimed = claimed };
   stands = λ log.
       let standing = begins_standing (parts_of (table_at c.tables t).rows (table_at c.tables t).toast c.ids log) (owner_of t s x) old new (old_there c s t x old (Some new) begins) (no_pin c s t there sound before) (begins.can new refl) in
       subst (λ (o : Option ℕ). WriteStands (parts_of (table_at c.tables t).rows (table_at c.tables t).toast c.ids log) (record { owner = owner_of t s x; stage = to_save (owner_of t s x) old new (plan_for (storages_at c t) new) 0 o })) e standing;

@@ -30,7 +30,7 @@ use Rattle.write_steps.specs.declared.stage.OldRow.{OldRow}
 use Rattle.command_set.specs.declared.Set.{Set}
 use Rattle.core_state.specs.Begun.{cell_in_line, cells_with, inserted_row, updated_row}
 use Rattle.core_state.specs.Coming.{is_elsewhere}
-use Rattle.core_state.specs.Commands.{AreSetsOf, IsFitting}
+use Rattle.core_state.specs.Commands.{AreSetsOf, IsRowOf, IsFitting}
 use Rattle.core_state.specs.Facts.{IsSound, PartsAreSound, ids_in}
 use Rattle.core_state.specs.State.{CoreState, IsSession, IsTableOf, schemas_of, seat_of, snapshot_of, table_at, xid_of}
 use Rattle.core_state.specs.Views.{counts_under, in_sight, in_view}
@@ -181,6 +181,13 @@ in_one key k e = elim (cases_in key [] k e) [
   | inr none ↦ absurd (none_in_nil k none)
 ]
 
+-- the row of an insert
+pub inserted_can : (c : CoreState) (t : ℕ) (row : Row) → IsRowOf (schemas_of c.tables) t row → (length (map cell_in_line row) ≡ length (storages_at c t)) × AreCellsOf (toast_rel_of t) (storages_at c t) (map cell_in_line row)
+inserted_can c t row is = (
+  length_inserted row ∙ is.one_each ∙ ap (λ (schema : TableSchema). length schema.storages) (schema_is c t (table_in c t is.of_table)),
+  inserted_cells (toast_rel_of t) (storages_at c t) row is.values,
+)
+
 pub granted_insert : (c : CoreState) (s t : ℕ) (key : ℤ) (row : Row) → IsSession c.seats s → IsSound c → PartsAreSound c → IsFitting (schemas_of c.tables) (commands.Insert t key row) → TellsInsert c s t key row
     → IsGranted c s t (key ∷ []) None (Some (inserted_row key row))
 granted_insert c s t key row there sound parts fitting tells = record {
@@ -189,9 +196,9 @@ granted_insert c s t key row there sound parts fitting tells = record {
   its = λ k e. e;
   row = λ was e. absurd (cc);
   alone = λ stored e f. subst (λ (r : Stored). tuple_in (in_sight c.xacts (seat_of c s).state) (pages_at c t) r.key ≡ None) (stored_row_is (inserted_row key row) stored e) now;
-  can = λ stored e. subst (CanSave (storages_at c t)) (stored_row_is (inserted_row key row) stored e) (record { one_each = one_each; limits = limits_of (toast_rel_of t) (storages_at c t) (map cell_in_line row) one_each cells; fits = tells.fits });
+  can = λ stored e. subst (CanSave (storages_at c t)) (stored_row_is (inserted_row key row) stored e) (record { one_each = made.0; limits = limits_of (toast_rel_of t) (storages_at c t) (map cell_in_line row) made.0 made.1; fits = tells.fits });
   key = λ stored e. subst (λ (r : Stored). FitsSigned w64 r.key) (stored_row_is (inserted_row key row) stored e) fitting.1;
-  cells = λ stored e. subst (λ (r : Stored). AreCellsOf (toast_rel_of t) (storages_at c t) r.cells) (stored_row_is (inserted_row key row) stored e) cells;
+  cells = λ stored e. subst (λ (r : Stored). AreCellsOf (toast_rel_of t) (storages_at c t) r.cells) (stored_row_is (inserted_row key row) stored e) made.1;
   keeps = λ stored e. subst (λ (r : Stored). Keeps [] r.cells) (stored_row_is (inserted_row key row) stored e) (inserted_keeps row);
   distinct = none_distinct;
 }
@@ -202,16 +209,13 @@ granted_insert c s t key row there sound parts fitting tells = record {
     now : tuple_in (in_sight c.xacts (seat_of c s).state) (pages_at c t) key ≡ None
     now = not_found (in_sight c.xacts (seat_of c s).state) (table_at c.tables t) key (table_made c t table parts).rows tells.none.now
 
-    one_each : length (map cell_in_line row) ≡ length (storages_at c t)
-    one_each = length_inserted row ∙ fitting.0.one_each ∙ ap (λ (schema : TableSchema). length schema.storages) (schema_is c t table)
-
-    cells : AreCellsOf (toast_rel_of t) (storages_at c t) (map cell_in_line row)
-    cells = inserted_cells (toast_rel_of t) (storages_at c t) row fitting.0.values
+    made : (length (map cell_in_line row) ≡ length (storages_at c t)) × AreCellsOf (toast_rel_of t) (storages_at c t) (map cell_in_line row)
+    made = inserted_can c t row fitting.0
 
 -- a row with columns set
-updated_can : (c : CoreState) (s t : ℕ) (key to : ℤ) (old : OldRow) (sets : List Set) → AreSetsOf (schemas_of c.tables) t sets → IsOldOf c t key old
+pub updated_can : (c : CoreState) (t : ℕ) (key : ℤ) (old : OldRow) (sets : List Set) → AreSetsOf (schemas_of c.tables) t sets → IsOldOf c t key old
     → (length (cells_with old.stored.cells sets) ≡ length (storages_at c t)) × AreCellsOf (toast_rel_of t) (storages_at c t) (cells_with old.stored.cells sets)
-updated_can c s t key to old sets are is = (
+updated_can c t key old sets are is = (
   length_cells_set sets old.stored.cells ∙ is.one_each,
   updated_cells (toast_rel_of t) (storages_at c t) 1 old.stored.cells sets (λ n value e. set_value sets n value are.values e) is.cells,
 )
@@ -256,7 +260,7 @@ granted_update c s t key sets there sound fitting tells = record {
     is = old_is c t (in_view c.xacts c.snaps (seat_of c s).state) key old table sound at
 
     made : (length (cells_with old.stored.cells sets) ≡ length (storages_at c t)) × AreCellsOf (toast_rel_of t) (storages_at c t) (cells_with old.stored.cells sets)
-    made = updated_can c s t key key old sets fitting is
+    made = updated_can c t key old sets fitting is
 
 pub granted_delete : (c : CoreState) (s t : ℕ) (key : ℤ) → IsSession c.seats s → IsSound c → IsFitting (schemas_of c.tables) (commands.Delete t key) → (tells : TellsDelete c s t key)
     → IsGranted c s t (key ∷ []) (Some tells.finds.old) None
@@ -322,7 +326,7 @@ granted_rekey c s t from to sets there sound parts fitting tells = record {
     is = old_is c t (in_view c.xacts c.snaps (seat_of c s).state) from old table sound at
 
     made : (length (cells_with old.stored.cells sets) ≡ length (storages_at c t)) × AreCellsOf (toast_rel_of t) (storages_at c t) (cells_with old.stored.cells sets)
-    made = updated_can c s t from to old sets fitting.0 is
+    made = updated_can c t from old sets fitting.0 is
 
     now : tuple_in (in_sight c.xacts (seat_of c s).state) (pages_at c t) to ≡ None
     now = not_found (in_sight c.xacts (seat_of c s).state) (table_at c.tables t) to (table_made c t table parts).rows tells.none.now

@@ -59,19 +59,19 @@ goes_out new column value limits e long =
     let most : IsWithinLimits (Inline value) = subst IsWithinLimits is (limits (column - 1) Null (slice_get_within new.cells (column - 1) (Inline value) e)) in
     subst CanGoOut (sym is) (long, most)
 
-pub can_push : (storages : List Storage) (new : Stored) → CanSave storages new → CanPush new (plan_for storages new) 0
-can_push storages new can = record {
+pub can_push : (storages : List Storage) (new : Stored) → length new.cells ≡ length storages → All IsWithinLimits new.cells → CanPush new (plan_for storages new) 0
+can_push storages new one_each limits = record {
   there = λ at column e.
       let may = may_go_at storages new at column e in
       let within = may.within in
-      let same = can.one_each in
+      let same = one_each in
       (may.from, omega (arith, within, same));
   values = λ at column from e.
       let may = may_go_at storages new at column e in
       let has = inline_at new.cells (column - 1) may.size may.inline in
       let long = may.long in
       let is = has.2 in
-      goes_out new column has.0 can.limits has.1 (omega (arith, long, is));
+      goes_out new column has.0 limits has.1 (omega (arith, long, is));
   once = λ at other column e f. once at other column e f (nat_lt at other) refl (nat_lt other at) refl;
 }
   where
@@ -131,4 +131,4 @@ begins_standing parts owner old new there free can =
       saved = λ at pointer before e. absurd (omega (arith, before));
       apart = λ at other p q before also. absurd (omega (arith, before));
     })
-    (can_push parts.rows.schema.storages new can)
+    (can_push parts.rows.schema.storages new can.one_each can.limits)

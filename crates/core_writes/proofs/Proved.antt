@@ -1,7 +1,7 @@
 -- The laws of a write's granted moment, from the lemmas on its core.
 use Rattle.std.proofs.Common.{ap, refl, subst, sym, ◌∙◌}
 use Rattle.std.specs.Option.{option_map, option_map_or, unwrap_or}
-use Rattle.std.specs.Prelude.{List, None, Option, Some, [], false, map as mapped, ℕ, ℤ, ◌-◌, ◌∷◌, ◌≡◌, ◌≢◌}
+use Rattle.std.specs.Prelude.{List, None, Option, Some, [], false, length, map as mapped, ℕ, ℤ, ◌-◌, ◌∷◌, ◌≡◌, ◌≢◌}
 use Rattle.list_facts.proofs.Changed.{set_twice}
 use Rattle.tuple_layout.specs.Places.{Row}
 use Rattle.tuple_layout.specs.declared.cell.Stored.{Stored}
@@ -18,6 +18,7 @@ use Rattle.command_set.specs.declared.state.Plain.{Plain}
 use Rattle.command_set.specs.declared.state.Session.{Session}
 use Rattle.command_set.specs.declared.state.Transaction.{Transaction}
 use Rattle.table_state.specs.Rows.{cell_value}
+use Rattle.table_state.specs.Tables.{AreCellsOf, toast_rel_of}
 use Rattle.write_steps.specs.declared.stage.OldRow.{OldRow}
 use Rattle.core_state.proofs.Answered.{answer_is, answered}
 use Rattle.core_state.specs.Begun.{begun, inserted_row, job_writing, updated_row, write_begun}
@@ -42,11 +43,13 @@ use Rattle.core_looks.specs.Due.{reply_due}
 use Rattle.core_writes.proofs.Changes.{delete_change, insert_change, rekey_change, update_change}
 use Rattle.core_writes.proofs.Granted.{sound_write}
 use Rattle.core_writes.proofs.Jobs.{storages_at}
-use Rattle.core_writes.proofs.Known.{granted_delete, granted_insert, granted_rekey, granted_update, old_is}
+use Rattle.core_writes.proofs.Known.{granted_delete, granted_insert, granted_rekey, granted_update, inserted_can, old_is, updated_can}
+use Rattle.core_writes.proofs.Plans.{can_push}
+use Rattle.core_writes.proofs.Rows.{limits_of}
 use Rattle.core_writes.proofs.Replies.{FindsNone, FindsOld, delete_tells, insert_tells, rekey_tells, update_tells}
 use Rattle.core_writes.proofs.Runs.{Answers, falls_write, job_begun, runs_write}
 use Rattle.core_writes.proofs.Views.{row_found_at}
-use Rattle.core_writes.specs.Laws.{IsDueGranted, WriteGoesOn, WritesFall, WritesKeep, WritesRun, granted_to}
+use Rattle.core_writes.specs.Laws.{CanWrite, IsDueGranted, RowsCanBeWritten, WriteGoesOn, columns_of, WritesFall, WritesKeep, WritesRun, granted_to}
 
 before_of : (c : CoreState) (s : ℕ) (command : Command) → IsDueGranted c s command → is_past_moment (seat_of c s).job ≡ false
 before_of c s command due = ap is_past_moment due.job
@@ -222,4 +225,22 @@ writes_fall = record {
       let old = finds.old in
       goes_on c s t (from ∷ to ∷ []) (Some old) (Some (updated_row old.stored to sets)) (commands.Rekey t from to sets) (granted_to c s (commands.Rekey t from to sets)) due
       (ap (λ (o : Option OldRow). option_map_or (λ (row : OldRow). job_writing c s t (Some row) (Some (updated_row row.stored to sets))) o jobs.Idle) finds.seen) (rekey_line c s t from to sets old finds.seen);
+}
+
+-- ---- before the moment
+
+can_write : (c : CoreState) (t : ℕ) (new : Stored) → length new.cells ≡ length (storages_at c t) → AreCellsOf (toast_rel_of t) (storages_at c t) new.cells → CanWrite (columns_of c t) new
+can_write c t new one_each cells =
+    let limits = limits_of (toast_rel_of t) (storages_at c t) new.cells one_each cells in
+    record { one_each = one_each; limits = limits; begins = λ old. can_push (storages_at c t) new one_each limits }
+
+pub rows_can_be_written : RowsCanBeWritten
+rows_can_be_written = record {
+  inserted = λ c t key row is.
+      let can = inserted_can c t row is in
+      can_write c t (inserted_row key row) can.0 can.1;
+  updated = λ c s t key to sets old sound seen are.
+      let found = row_found_at c t (in_view c.xacts c.snaps (seat_of c s).state) key old seen in
+      let can = updated_can c t key old sets are (old_is c t (in_view c.xacts c.snaps (seat_of c s).state) key old (table_in c t are.of_table) sound found) in
+      can_write c t (updated_row old.stored to sets) can.0 can.1;
 }

@@ -1,13 +1,22 @@
 -- What the granted moment of a write keeps and does, with a field for each command that writes.
-use Rattle.std.specs.Prelude.{List, true, ℕ, ℤ, ◌<◌, ◌≡◌}
+use Rattle.std.specs.List.{All}
+use Rattle.std.specs.Prelude.{List, Option, Some, length, true, ℕ, ℤ, ◌<◌, ◌≡◌}
 use Rattle.tuple_layout.specs.Places.{Row}
+use Rattle.tuple_layout.specs.Tuples.{IsWithinLimits}
+use Rattle.tuple_layout.specs.declared.Storage.{Storage}
+use Rattle.tuple_layout.specs.declared.cell.Stored.{Stored}
 use Rattle.command_set.specs.Replies.{is_granted}
 use Rattle.command_set.specs.declared.Command.{Command}
 use Rattle.command_set.specs.declared.Set.{Set}
+use Rattle.write_steps.specs.Standing.{CanBegin}
+use Rattle.write_steps.specs.declared.stage.OldRow.{OldRow}
+use Rattle.core_state.specs.Begun.{inserted_row, plan_of, updated_row}
+use Rattle.core_state.specs.Commands.{AreSetsOf, IsRowOf}
 use Rattle.core_state.specs.Events.{at_moment, left, line_granted}
 use Rattle.core_state.specs.Facts.{IsSound, PartsAreSound}
 use Rattle.core_state.specs.Moves.{Runs}
-use Rattle.core_state.specs.State.{CoreState, IsSession, is_past_moment, seat_of}
+use Rattle.core_state.specs.State.{CoreState, IsSession, is_past_moment, schemas_of, seat_of, table_at}
+use Rattle.core_state.specs.Views.{row_seen}
 use Rattle.core_looks.specs.Due.{reply_due}
 use Rattle.command_set.specs.declared.Command.TheVariants as commands
 use Rattle.core_state.specs.declared.advance.Advance.TheVariants as advances
@@ -49,3 +58,21 @@ pub record WritesFall : Type 0 where
   pub update : (c : CoreState) (s t : ℕ) (key : ℤ) (sets : List Set) → IsDueGranted c s (commands.Update t key sets) → WriteGoesOn c (granted_to c s (commands.Update t key sets)) s
   pub delete : (c : CoreState) (s t : ℕ) (key : ℤ) → IsDueGranted c s (commands.Delete t key) → WriteGoesOn c (granted_to c s (commands.Delete t key)) s
   pub rekey : (c : CoreState) (s t : ℕ) (from to : ℤ) (sets : List Set) → IsDueGranted c s (commands.Rekey t from to sets) → WriteGoesOn c (granted_to c s (commands.Rekey t from to sets)) s
+
+-- ---- before the moment
+
+-- a row can be written, unless its tuple is too large: it has a cell for each column of its table, each within limits, and the columns that are to go out may
+pub record CanWrite (storages : List Storage) (new : Stored) : Type 0 where
+  pub one_each : length new.cells ≡ length storages
+  pub limits : All IsWithinLimits new.cells
+  pub begins : (old : Option OldRow) → CanBegin old (Some new) (plan_of storages (Some new))
+
+-- the storages of a table's columns
+abbrev pub columns_of : CoreState → ℕ → List Storage
+columns_of c t = (table_at c.tables t).rows.schema.storages
+
+pub record RowsCanBeWritten : Type 0 where
+  -- the row of an insert
+  pub inserted : (c : CoreState) (t : ℕ) (key : ℤ) (row : Row) → IsRowOf (schemas_of c.tables) t row → CanWrite (columns_of c t) (inserted_row key row)
+  -- a row that the session sees, with some of its columns set, at whatever key
+  pub updated : (c : CoreState) (s t : ℕ) (key to : ℤ) (sets : List Set) (old : OldRow) → IsSound c → row_seen c s t key ≡ Some old → AreSetsOf (schemas_of c.tables) t sets → CanWrite (columns_of c t) (updated_row old.stored to sets)

@@ -1,0 +1,14 @@
+pub mod Given
+pub mod Claims
+pub mod Rows
+pub mod Plans
+pub mod Views
+pub mod Jobs
+pub mod Moment
+pub mod Stands
+pub mod Changes
+pub mod Runs
+pub mod Replies
+pub mod Granted
+pub mod Known
+pub mod Proved

@@ -1,0 +1,16 @@
+pub mod Apart
+pub mod ToRead
+pub mod Columns
+pub mod Frame
+pub mod Events
+pub mod Drawn
+pub mod Cells
+pub mod NewRow
+pub mod Saved
+pub mod Marked
+pub mod Others
+pub mod Taken
+pub mod Steps
+pub mod Kept
+pub mod Made
+pub mod Proved

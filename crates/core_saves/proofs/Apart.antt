@@ -44,7 +44,7 @@ shown_committed xacts snapshot xid shown = elim (test (is_committed xacts xid)) 
   | inr not_yet ↦ absurd (clash (committed_in xacts snapshot xid) shown (not_shown xacts snapshot xid not_yet))
 ]
 
-seen_protected : (xacts : Xacts) (snaps : Snaps) (id inserter : ℕ) (ender : Option ℕ) → sees_at xacts snaps id inserter ender None ≡ true → is_protected xacts snaps inserter ender ≡ true
+pub seen_protected : (xacts : Xacts) (snaps : Snaps) (id inserter : ℕ) (ender : Option ℕ) → sees_at xacts snaps id inserter ender None ≡ true → is_protected xacts snaps inserter ender ≡ true
 seen_protected xacts snaps id inserter ender seen =
     let found = seeing xacts snaps id inserter ender seen in
     let parts = and_parts (committed_in xacts found.0.snapshot inserter) (not (option_map_or (takes_effect xacts found.0.snapshot None) ender false)) found.2 in

@@ -13,4 +13,8 @@ pub mod Taken
 pub mod Steps
 pub mod Kept
 pub mod Made
+pub mod Values
+pub mod Coming
+pub mod Standing
+pub mod Falls
 pub mod Proved

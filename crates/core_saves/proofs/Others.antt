@@ -132,7 +132,7 @@ mark_apart_from c s t other value_id xid owner stage runs mine its = record {
     some_is a b h = cc
 
 -- the write that another session's job is
-other_write : (c : CoreState) (s t i : ℕ) (other : Seat) (write : Writing) → suc i ≢ s → slice_get c.seats i ≡ Some other → other.job ≡ jobs.Writing t write → IsSound c → OtherWrite c s t (suc i) write.owner write.stage
+pub other_write : (c : CoreState) (s t i : ℕ) (other : Seat) (write : Writing) → suc i ≢ s → slice_get c.seats i ≡ Some other → other.job ≡ jobs.Writing t write → IsSound c → OtherWrite c s t (suc i) write.owner write.stage
 other_write c s t i other write differ at is sound =
     let seat = sound.each i other at in
     let job = subst (λ (its : Job). JobIsSound c.xacts c.snaps c.ids (held_by c.locks (suc i)) c.tables (suc i) other its) is seat.job in

@@ -70,7 +70,7 @@ set_same f (cell ∷ cells) zero a b same = ap (λ (value : Option (List ℕ)). 
 set_same f (cell ∷ cells) (suc i) a b same = ap (λ (row : Row). f cell ∷ row) (set_same f cells i a b same)
 
 -- an inline value that is taken out of a row and put back
-set_back : (cells : List Cell) (i : ℕ) → CanGoOut (slice_index_or cells i Null) → slice_set (slice_set cells i Null) i (Inline (bytes_of (slice_index_or cells i Null))) ≡ cells
+pub set_back : (cells : List Cell) (i : ℕ) → CanGoOut (slice_index_or cells i Null) → slice_set (slice_set cells i Null) i (Inline (bytes_of (slice_index_or cells i Null))) ≡ cells
 set_back [] i can = refl
 set_back (Null ∷ cells) zero can = absurd can
 set_back (Inline value ∷ cells) zero can = refl

@@ -17,4 +17,5 @@ pub mod Values
 pub mod Coming
 pub mod Standing
 pub mod Falls
+pub mod SaveFalls
 pub mod Proved

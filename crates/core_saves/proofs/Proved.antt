@@ -2,14 +2,18 @@
 use Rattle.core_saves.proofs.Kept.{marks_keep_all, marks_last_all, saves_keep_all}
 use Rattle.core_saves.proofs.Made.{steps_made}
 use Rattle.core_saves.proofs.Falls.{marks_fall_all, marks_last_fall}
+use Rattle.core_saves.proofs.SaveFalls.{saves_fall_all}
 use Rattle.core_saves.proofs.Standing.{marks_last_stay, marks_stay_all, saves_stay_all}
-use Rattle.core_saves.specs.Laws.{MarksFall, MarksKeep, MarksStay, SavesKeep, SavesStay, StepsAreMade}
+use Rattle.core_saves.specs.Laws.{MarksFall, MarksKeep, MarksStay, SavesFall, SavesKeep, SavesStay, StepsAreMade}
 
 pub steps_are_made : StepsAreMade
 steps_are_made = record { made = steps_made }
 
 pub saves_keep : SavesKeep
 saves_keep = record { saved = saves_keep_all }
+
+pub saves_fall : SavesFall
+saves_fall = record { saved = saves_fall_all }
 
 pub marks_keep : MarksKeep
 marks_keep = record { goes = marks_keep_all; last = marks_last_all }

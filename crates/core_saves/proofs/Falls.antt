@@ -125,10 +125,10 @@ mark_falls index owner dropped at mark next walk is some under = by (is_over (Wa
 
 -- ---- what is left of the core's session
 
-left_before : (c : CoreState) (s t : ℕ) (write : Writing) → (seat_of c s).job ≡ jobs.Writing t write → left c s ≡ write_left_at (table_at c.tables t).toast.index.entries write.owner write.stage
+pub left_before : (c : CoreState) (s t : ℕ) (write : Writing) → (seat_of c s).job ≡ jobs.Writing t write → left c s ≡ write_left_at (table_at c.tables t).toast.index.entries write.owner write.stage
 left_before c s t write is = ap (left_by c s) is
 
-left_after : (c : CoreState) (s t : ℕ) (ids : Pool) (log : LogState) (tables : List Table) (toast : Store) (write : Writing) (own added : Option ℕ) → StepTaken c s t ids log tables toast (jobs.Writing t write) own added
+pub left_after : (c : CoreState) (s t : ℕ) (ids : Pool) (log : LogState) (tables : List Table) (toast : Store) (write : Writing) (own added : Option ℕ) → StepTaken c s t ids log tables toast (jobs.Writing t write) own added
     → left (after_taken c s ids log tables (jobs.Writing t write)) s ≡ write_left_at toast.index.entries write.owner write.stage
 left_after c s t ids log tables toast write own added step =
     let later = after_taken c s ids log tables (jobs.Writing t write) in

@@ -1,5 +1,5 @@
 -- What is left of a write falls with a step of its save.
-use Rattle.std.proofs.Common.{Bool, Contains, List, None, Some, [], ap, arith, cond, drop, false, inl, inr, length, max, nat_lt, not, refl, suc, sym, true, zero, ℕ, ◌&&◌, ◌*◌, ◌+◌, ◌-◌, ◌<◌, ◌∙◌, ◌∷◌, ◌≡◌, ◌≢◌, ◌≤◌}
+use Rattle.std.proofs.Common.{Bool, Contains, List, None, Some, [], ap, arith, cond, drop, false, inl, inr, length, max, nat_lt, not, refl, subst, suc, sym, true, zero, ℕ, ◌&&◌, ◌*◌, ◌+◌, ◌-◌, ◌<◌, ◌∙◌, ◌∷◌, ◌≡◌, ◌≢◌, ◌≤◌}
 use Rattle.std.proofs.lemmas.Bool.Decides.{nat_tests}
 use Rattle.std.proofs.lemmas.Bool.{ltb-true}
 use Rattle.std.proofs.lemmas.List.Sums.{sum_by-cons, sum_by-drop_more}
@@ -25,22 +25,23 @@ use Rattle.toast_store.specs.declared.save.SaveStep.{SaveStep}
 use Rattle.write_steps.proofs.Plans.{cell_other, push_with}
 use Rattle.write_steps.specs.Dropped.{dropped_at, dropped_of, keeps, same_pointer}
 use Rattle.write_steps.specs.Standing.{CanPush}
-use Rattle.write_steps.specs.Writes.{Writing, bytes_of, cell_of, column_at, old_cells, save_after, save_told, saved_on, stage_after, to_save, with_cell}
+use Rattle.write_steps.specs.Writes.{Writing, bytes_of, cell_of, column_at, old_cells, save_after, save_told, saved_on, stage_after, to_save, with_cell, write_after}
 use Rattle.write_steps.specs.declared.stage.OldRow.{OldRow}
 use Rattle.write_steps.specs.declared.stage.Owner.{Owner}
 use Rattle.write_steps.specs.declared.stage.WriteStage.{WriteStage}
 use Rattle.table_state.specs.Rows.{pointers_in}
 use Rattle.core_state.proofs.Lists.{in_append_left}
-use Rattle.core_state.specs.Coming.{marks_left, save_steps, saves_left}
-use Rattle.core_state.specs.Lines.{parts_at}
+use Rattle.core_state.specs.Coming.{marks_left, save_steps, saves_left, write_left_at}
+use Rattle.core_state.specs.Events.{left}
+use Rattle.core_state.specs.Lines.{after_write_step, parts_at}
 use Rattle.core_state.specs.State.{CoreState, table_at}
 use Rattle.core_saves.proofs.Columns.{from_list}
 use Rattle.core_saves.proofs.Coming.{set_back}
 use Rattle.core_saves.proofs.Events.{index_within, put_within}
+use Rattle.core_saves.proofs.Falls.{left_after, left_before}
 use Rattle.core_saves.proofs.NewRow.{old_apart}
 use Rattle.core_saves.proofs.Saved.{write_at}
-use Rattle.core_saves.proofs.Steps.{StepKnown, step_known}
-use Rattle.core_saves.specs.Left.{left_at}
+use Rattle.core_saves.proofs.Steps.{StepKnown, saving_taken, step_known}
 use Rattle.core_saves.specs.Made.{IsSaving, IsWriteMade}
 use Rattle.toast_store.specs.PieceJobs as piece_jobs
 use Rattle.toast_store.specs.Saves as saves
@@ -177,7 +178,7 @@ saves_more new plan at column here =
 -- ---- what is left of a write
 
 pub saving_falls : (c : CoreState) (s t : ℕ) (owner : Owner) (old : Option OldRow) (new : Stored) (plan : List ℕ) (at : ℕ) (save : Saving) (toast : Store) → IsWriteMade c s t (write_at owner (stages.Saving old new plan at save)) toast
-    → left_at toast.index.entries owner (stage_after (parts_at c t) owner (stages.Saving old new plan at save)) < left_at (table_at c.tables t).toast.index.entries owner (stages.Saving old new plan at save)
+    → write_left_at toast.index.entries owner (stage_after (parts_at c t) owner (stages.Saving old new plan at save)) < write_left_at (table_at c.tables t).toast.index.entries owner (stages.Saving old new plan at save)
 saving_falls c s t owner old new plan at save toast made = by (save_told (parts_at c t) save)
   where
     known : StepKnown c s t owner (stages.Saving old new plan at save) toast
@@ -226,7 +227,7 @@ saving_falls c s t owner old new plan at save toast made = by (save_told (parts_
         let less = drops_less (λ (p : Pointer). steps_left entries (Marking.walk (new_mark p owner.xid owner.session))) (old_cells old) new.cells (column_at plan at - 1) pointer save.value in
         omega (arith, same, less)
 
-    by_next : (pointer : Pointer) (o : Option ℕ) → slice_get plan (at + 1) ≡ o → left_at toast.index.entries owner (to_save owner old (with_cell new (column_at plan at) (Out pointer)) plan (at + 1) o) < left_at entries owner (stages.Saving old new plan at save)
+    by_next : (pointer : Pointer) (o : Option ℕ) → slice_get plan (at + 1) ≡ o → write_left_at toast.index.entries owner (to_save owner old (with_cell new (column_at plan at) (Out pointer)) plan (at + 1) o) < write_left_at entries owner (stages.Saving old new plan at save)
     by_next pointer None e =
         let less = passed pointer in
         omega (arith, fewer, less)
@@ -250,18 +251,22 @@ saving_falls c s t owner old new plan at save toast made = by (save_told (parts_
         ∙ cell_other new (column_at plan at) other (Out pointer) stage.there.0 (push.there k other f).0 (λ same. omega (arith, low, push.once k at (column_at plan at) (f ∙ ap (λ (n : ℕ). Some n) same) stage.here))) in
         omega (arith, fewer, less, drops, first, all, rest)
 
-    by : (step : SaveStep) → left_at toast.index.entries owner (saved_on owner old new plan at (save_after (parts_at c t) save) step) < left_at entries owner (stages.Saving old new plan at save)
+    by : (step : SaveStep) → write_left_at toast.index.entries owner (saved_on owner old new plan at (save_after (parts_at c t) save) step) < write_left_at entries owner (stages.Saving old new plan at save)
     by told.More =
         let same = marks whole in
         omega (arith, fewer, same)
     by (told.Done pointer) = by_next pointer (slice_get plan (at + 1)) refl
 
-pub saves_fall_all : (c : CoreState) (s t : ℕ) (write : Writing) (toast : Store) → IsSaving write.stage → IsWriteMade c s t write toast
-    → left_at toast.index.entries write.owner (stage_after (parts_at c t) write.owner write.stage) < left_at (table_at c.tables t).toast.index.entries write.owner write.stage
+pub saves_fall_all : (c : CoreState) (s t : ℕ) (write : Writing) (toast : Store) → IsSaving write.stage → IsWriteMade c s t write toast → left (after_write_step c s t write toast) s < left c s
 saves_fall_all c s t write toast is made = by write.owner write.stage is made
   where
-    by : (owner : Owner) (stage : WriteStage) → IsSaving stage → IsWriteMade c s t (write_at owner stage) toast → left_at toast.index.entries owner (stage_after (parts_at c t) owner stage) < left_at (table_at c.tables t).toast.index.entries owner stage
-    by owner (stages.Saving old new plan at save) is made = saving_falls c s t owner old new plan at save toast made
+    by : (owner : Owner) (stage : WriteStage) → IsSaving stage → IsWriteMade c s t (write_at owner stage) toast → left (after_write_step c s t (write_at owner stage) toast) s < left c s
+    by owner (stages.Saving old new plan at save) is made =
+        let step = saving_taken c s t owner old new plan at save toast made in
+        let fall = saving_falls c s t owner old new plan at save toast made in
+        let after = left_after c s t _ _ _ toast (write_after (parts_at c t) (write_at owner (stages.Saving old new plan at save))) _ _ step in
+        let before = left_before c s t (write_at owner (stages.Saving old new plan at save)) made.job in
+        subst (λ (n : ℕ). n < left c s) (sym after) (subst (λ (n : ℕ). write_left_at toast.index.entries owner (stage_after (parts_at c t) owner (stages.Saving old new plan at save)) < n) (sym before) fall)
     by owner (stages.Put old new plan) is made = absurd is
     by owner (stages.Remove old) is made = absurd is
     by owner (stages.Marking dropped at mark) is made = absurd is

@@ -2,14 +2,13 @@
 use Rattle.std.specs.Prelude.{ℕ, ◌≡◌, ◌<◌}
 use Rattle.toast_store.specs.Stores.{Store}
 use Rattle.write_steps.specs.Steps.{WriteSteps}
-use Rattle.write_steps.specs.Writes.{Parts, Writing, stage_after, write_after}
+use Rattle.write_steps.specs.Writes.{Parts, Writing, write_after}
 use Rattle.write_steps.specs.declared.stage.WriteStep.{WriteStep}
 use Rattle.core_state.specs.Events.{left, write_told}
 use Rattle.core_state.specs.Facts.{IsSound}
 use Rattle.core_state.specs.Lines.{after_write_last, after_write_step, parts_at}
 use Rattle.core_state.specs.Moves.{Stays}
-use Rattle.core_state.specs.State.{CoreState, table_at}
-use Rattle.core_saves.specs.Left.{left_at}
+use Rattle.core_state.specs.State.{CoreState}
 use Rattle.core_saves.specs.Made.{IsMarkingOne, IsSaving, IsWriteMade, parts_made}
 use Rattle.command_set.specs.declared.Reply.TheVariants as replies
 use Rattle.core_state.specs.declared.advance.Advance.TheVariants as advances
@@ -28,10 +27,9 @@ pub record SavesKeep : Type 0 where
 pub record SavesStay : Type 0 where
   pub saved : (c : CoreState) (s t : ℕ) (write : Writing) (toast : Store) → IsSaving write.stage → IsWriteMade c s t write toast → Stays c s (after_write_step c s t write toast) advances.More
 
--- and less is left, where what the row drops is counted with the value in its place
+-- and less is left
 pub record SavesFall : Type 0 where
-  pub saved : (c : CoreState) (s t : ℕ) (write : Writing) (toast : Store) → IsSaving write.stage → IsWriteMade c s t write toast
-      → left_at toast.index.entries write.owner (stage_after (parts_at c t) write.owner write.stage) < left_at (table_at c.tables t).toast.index.entries write.owner write.stage
+  pub saved : (c : CoreState) (s t : ℕ) (write : Writing) (toast : Store) → IsSaving write.stage → IsWriteMade c s t write toast → left (after_write_step c s t write toast) s < left c s
 
 -- A batch of a dropped value, an entry of one, or going on to the next dropped value; and the last of these, with which the write is over
 pub record MarksKeep : Type 0 where

@@ -146,9 +146,9 @@ saves_left new plan from = sum_by (λ column. save_steps (cell_of new.cells colu
 abbrev pub marks_left : List Entry → Owner → List Pointer → ℕ → ℕ
 marks_left entries owner dropped from = sum_by (λ pointer. steps_left entries (Marking.walk (new_mark pointer owner.xid owner.session))) (drop from dropped)
 
--- how many steps of a write are left at most, by where it stands
+-- how many steps of a write are left at most, by where it stands; what the new row drops is counted with the value that is being saved in its place
 abbrev pub write_left_at : List Entry → Owner → WriteStage → ℕ
-write_left_at entries owner (stages.Saving old new plan at save) = saves.steps_left save + saves_left new plan (at + 1) + 1 + marks_left entries owner (dropped_of (old_cells old) new.cells) 0
+write_left_at entries owner (stages.Saving old new plan at save) = saves.steps_left save + saves_left new plan (at + 1) + 1 + marks_left entries owner (dropped_of (old_cells old) (Stored.cells (with_cell new (column_at plan at) (Inline save.value)))) 0
 write_left_at entries owner (stages.Put old new plan) = 1 + marks_left entries owner (dropped_of (old_cells old) new.cells) 0
 write_left_at entries owner (stages.Remove old) = 1 + marks_left entries owner (dropped_of (old_cells (Some old)) []) 0
 write_left_at entries owner (stages.Marking dropped at mark) = steps_left entries (Marking.walk mark) + marks_left entries owner dropped (at + 1)

@@ -292,6 +292,9 @@ impl ReadJob {
 
         // What the next step needs, or what the reply is.
         ensures leaves { IfOk result (Leaves toast.old self.old toast.new self.new) }
+
+        // What its type told of it before the step.
+        ensures stage { IsReadStage self.old.session self.old.stage }
     {
         match &mut self.stage {
             ReadStage::Row { stored } => {

@@ -1,0 +1,5 @@
+pub mod Repins
+pub mod Values
+pub mod Stepped
+pub mod Reading
+pub mod Proved

@@ -1,0 +1,7 @@
+-- The laws of the lines of reads, from the lemmas on each.
+use Rattle.core_state.proofs.Below.{below}
+use Rattle.core_reads.proofs.Reading.{step_falls, step_sound, step_stays}
+use Rattle.core_reads.specs.Laws.{ReadStepsKeep}
+
+pub read_steps_keep : ReadStepsKeep
+read_steps_keep = record { sound = step_sound below; stays = step_stays; falls = step_falls }

@@ -2,4 +2,16 @@ pub mod Repins
 pub mod Values
 pub mod Stepped
 pub mod Reading
+pub mod Spans
+pub mod Replies
+pub mod There
+pub mod Fresh
+pub mod Seen
+pub mod Begins
+pub mod Begun
+pub mod Due
+pub mod Using
+pub mod Moments
+pub mod Gets
+pub mod Wanted
 pub mod Proved

@@ -75,7 +75,7 @@ held_taken snaps xacts id registered = by (id == least_free snaps) refl
 pub back_taken : (u : CoreState) (i : ℕ) (seat : Seat) → slice_get u.seats i ≡ Some seat → IsSound u → ShowsBack u.snaps (after_take u.snaps u.xacts) (uses_of seat)
 back_taken u i seat at sound id held used is = (held, sym (held_taken u.snaps u.xacts id (registered_use u i seat id at used sound)) ∙ is, refl)
 
-same_locks : (locks : List SessionLocks) (s : ℕ) → KeepsLocks locks locks s
+pub same_locks : (locks : List SessionLocks) (s : ℕ) → KeepsLocks locks locks s
 same_locks locks s = record { others = λ other differ. refl; rows = λ row e. e; uses = λ t e. e }
 
 -- the session's own facts under the snapshots then

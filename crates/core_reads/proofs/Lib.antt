@@ -14,4 +14,9 @@ pub mod Using
 pub mod Moments
 pub mod Gets
 pub mod Wanted
+pub mod Told
+pub mod Fetched
+pub mod Handles
+pub mod Kept
+pub mod Closed
 pub mod Proved

@@ -68,7 +68,7 @@ with_job c s job = record (seat_of c s) { job = job }
 -- ---- snapshots that are given up
 
 -- another's, and this session's, are later ones
-later_given_up : (c : CoreState) (later : Snaps) (ids : List ℕ) (held : SessionLocks) (uses : List ℕ) (own : Option ℕ) → Released c.xacts c.snaps later ids → ((id : ℕ) → Contains uses id → is_registered later id ≡ true) → IsSound c
+pub later_given_up : (c : CoreState) (later : Snaps) (ids : List ℕ) (held : SessionLocks) (uses : List ℕ) (own : Option ℕ) → Released c.xacts c.snaps later ids → ((id : ℕ) → Contains uses id → is_registered later id ≡ true) → IsSound c
     → IsLaterFor c.xacts c.xacts c.snaps later c.tables held uses own
 later_given_up c later ids held uses own gives there sound = record {
   seen = λ id inserter ender used. seen_back c.xacts c.snaps later id inserter ender (there id used) (gives.back id);

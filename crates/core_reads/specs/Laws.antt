@@ -48,6 +48,11 @@ pub record ReadsBegin : Type 0 where
   pub row : (t : ℕ) (key : ℤ) → Begins (commands.Get t key)
   pub part : (t : ℕ) (key : ℤ) (column : ℕ) (offset len : ℤ) → Begins (commands.Part t key column offset len)
 
+-- the moment with which a fetch of a handle's value begins, or is over where it needs nothing of the store; and that with which a handle is closed
+pub record HandlesBegin : Type 0 where
+  pub fetch : (name : ℕ) (offset len : ℤ) → Begins (commands.Fetch name offset len)
+  pub close : (name : ℕ) → Begins (commands.Close name)
+
 -- a step of a read: a batch, or an entry of one; the last one answers the reply of the read's moment
 pub record ReadStepsKeep : Type 0 where
   pub sound : (c : CoreState) (s t : ℕ) (snapshot : Option ℕ) (read : Reading) → IsSession c.seats s → (seat_of c s).job ≡ jobs.Reading t snapshot read → IsReadMade (table_at c.tables t).toast read → PartsAreSound c → IsSound c

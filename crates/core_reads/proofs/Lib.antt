@@ -19,4 +19,5 @@ pub mod Fetched
 pub mod Handles
 pub mod Kept
 pub mod Closed
+pub mod Opened
 pub mod Proved

@@ -2,6 +2,7 @@
 use Rattle.core_state.proofs.Below.{below}
 use Rattle.core_reads.proofs.Closed.{close_begins}
 use Rattle.core_reads.proofs.Fetched.{fetch_begins}
+use Rattle.core_reads.proofs.Opened.{open_begins}
 use Rattle.core_reads.proofs.Reading.{step_falls, step_sound, step_stays}
 use Rattle.core_reads.proofs.Wanted.{get_begins, part_begins}
 use Rattle.core_reads.specs.Laws.{HandlesBegin, ReadStepsKeep, ReadsBegin}
@@ -13,4 +14,4 @@ pub reads_begin : ReadsBegin
 reads_begin = record { row = get_begins; part = part_begins }
 
 pub handles_begin : HandlesBegin
-handles_begin = record { fetch = fetch_begins; close = close_begins }
+handles_begin = record { opening = open_begins; fetch = fetch_begins; closing = close_begins }

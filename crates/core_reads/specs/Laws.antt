@@ -37,7 +37,7 @@ once_granted c s command = at_moment (line_granted c s command) c s
 abbrev pub told_then : CoreState → ℕ → Command → Advance
 told_then c s command = advance_by (begun c s command) (reply_due c s command)
 
--- a granted moment of these commands: the core stays sound, the plain store answers the same, and what is left falls
+-- a granted moment of a command: the core stays sound, the plain store answers the same, and what is left falls
 pub record Begins (command : Command) : Type 0 where
   pub sound : (c : CoreState) (s : ℕ) → IsSession c.seats s → (seat_of c s).job ≡ jobs.Submitted command → is_granted (reply_due c s command) ≡ true → PartsAreSound c → IsSound c → IsSound (once_granted c s command)
   pub runs : (c : CoreState) (s : ℕ) → IsSession c.seats s → (seat_of c s).job ≡ jobs.Submitted command → is_granted (reply_due c s command) ≡ true → PartsAreSound c → IsSound c → Runs c s command (once_granted c s command) (told_then c s command)
@@ -48,10 +48,11 @@ pub record ReadsBegin : Type 0 where
   pub row : (t : ℕ) (key : ℤ) → Begins (commands.Get t key)
   pub part : (t : ℕ) (key : ℤ) (column : ℕ) (offset len : ℤ) → Begins (commands.Part t key column offset len)
 
--- the moment with which a fetch of a handle's value begins, or is over where it needs nothing of the store; and that with which a handle is closed
+-- the moments with which a handle is opened and closed, and that with which a fetch of its value begins, or is over where it needs nothing of the store
 pub record HandlesBegin : Type 0 where
+  pub opening : (name t : ℕ) (key : ℤ) (column : ℕ) → Begins (commands.Open name t key column)
   pub fetch : (name : ℕ) (offset len : ℤ) → Begins (commands.Fetch name offset len)
-  pub close : (name : ℕ) → Begins (commands.Close name)
+  pub closing : (name : ℕ) → Begins (commands.Close name)
 
 -- a step of a read: a batch, or an entry of one; the last one answers the reply of the read's moment
 pub record ReadStepsKeep : Type 0 where

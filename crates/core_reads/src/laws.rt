@@ -1,4 +1,4 @@
-//! What each line of a read keeps of a core, and does in terms of the plain store.
+//! What each line of a read, and of a handle, keeps of a core, and does in terms of the plain store.
 
 ghost use Rattle.core_reads.specs.Laws.{HandlesBegin, ReadStepsKeep, ReadsBegin};
 
@@ -8,7 +8,7 @@ pub fn reads_begin()
     ensures { ReadsBegin }
 {}
 
-/// So does a granted fetch of a handle's value; and so is a core after a handle is closed.
+/// The same of a granted open, fetch and close of a handle.
 pub fn handles_begin()
     ensures { HandlesBegin }
 {}

@@ -29,6 +29,7 @@ use Rattle.table_state.specs.Holders.{holders_of}
 use Rattle.table_state.specs.Tables.{IsTable}
 use Rattle.table_state.specs.declared.table.Table.{Table}
 use Rattle.read_steps.specs.Reads.{GoesOn, Leaves, Reading, fetch_due, read_after, read_left, reply_of, store_read}
+use Rattle.read_steps.specs.Sound.{IsReadStage}
 use Rattle.read_steps.specs.declared.stage.ReadStep.{ReadStep}
 use Rattle.core_state.proofs.Answered.{within}
 use Rattle.core_state.proofs.Below.{Below}
@@ -55,7 +56,7 @@ use Rattle.core_state.specs.declared.seat.Seat.{Seat}
 use Rattle.core_reads.proofs.Repins.{Repins, handle_repinned, repinned, repins_at, rows_repinned, seat_repinned, view_repinned, works_repinned}
 use Rattle.core_reads.proofs.Stepped.{ids_stepped, pins_stepped, set_repins, some_steps, store_repins, table_other, table_written, walks_stepped}
 use Rattle.core_reads.proofs.Values.{pending_repins, registered_left, row_repins, session_repins}
-use Rattle.core_reads.specs.Laws.{IsReadMade}
+use Rattle.core_reads.specs.Laws.{LeavesRead}
 use Rattle.change_log.specs.declared.entry.LogEntry.TheVariants as entries
 use Rattle.core_state.specs.declared.seat.Job.TheVariants as jobs
 use Rattle.read_steps.specs.declared.stage.ReadStep.TheVariants as steps
@@ -362,9 +363,9 @@ uses_end c s t snapshot read is id =
 
 -- ---- the laws
 
-pub step_sound : (below : Below) (c : CoreState) (s t : ℕ) (snapshot : Option ℕ) (read : Reading) → IsSession c.seats s → (seat_of c s).job ≡ jobs.Reading t snapshot read → IsReadMade (table_at c.tables t).toast read → PartsAreSound c → IsSound c
+pub step_sound : (below : Below) (c : CoreState) (s t : ℕ) (snapshot : Option ℕ) (read : Reading) → IsSession c.seats s → (seat_of c s).job ≡ jobs.Reading t snapshot read → LeavesRead (table_at c.tables t).toast read → PartsAreSound c → IsSound c
     → IsSound (read_on_by c s t snapshot read (read_told c t read))
-step_sound below c s t snapshot read there is made parts sound = by (read_told c t read) made.leaves
+step_sound below c s t snapshot read there is leaves parts sound = by (read_told c t read) leaves
   where
     repins : Repins c.tables (tables_read c.tables t read) s
     repins = step_repins c s t snapshot read there is sound
@@ -388,9 +389,9 @@ step_sound below c s t snapshot read there is made parts sound = by (read_told c
         clash : {b : Bool} → b ≡ false → b ≡ true → ⊥
         clash e f = absurd (cc)
 
-pub step_stays : (c : CoreState) (s t : ℕ) (snapshot : Option ℕ) (read : Reading) → IsSession c.seats s → (seat_of c s).job ≡ jobs.Reading t snapshot read → IsReadMade (table_at c.tables t).toast read → IsSound c
+pub step_stays : (c : CoreState) (s t : ℕ) (snapshot : Option ℕ) (read : Reading) → IsSession c.seats s → (seat_of c s).job ≡ jobs.Reading t snapshot read → LeavesRead (table_at c.tables t).toast read → IsSound c
     → Stays c s (read_on_by c s t snapshot read (read_told c t read)) (told_by_read (read_told c t read))
-step_stays c s t snapshot read there is made sound m told stands = by (read_told c t read) made.leaves
+step_stays c s t snapshot read there is leaves sound m told stands = by (read_told c t read) leaves
   where
     repins : Repins c.tables (tables_read c.tables t read) s
     repins = step_repins c s t snapshot read there is sound
@@ -417,9 +418,9 @@ step_stays c s t snapshot read there is made sound m told stands = by (read_told
       (was_told reply ends.came, ap (λ (seat : Seat). seat.job) (seat_written c.seats s (with_job c s jobs.Idle) there)),
     )
 
-pub step_falls : (c : CoreState) (s t : ℕ) (snapshot : Option ℕ) (read : Reading) → IsSession c.seats s → (seat_of c s).job ≡ jobs.Reading t snapshot read → IsReadMade (table_at c.tables t).toast read → IsSound c
+pub step_falls : (c : CoreState) (s t : ℕ) (snapshot : Option ℕ) (read : Reading) → IsSession c.seats s → (seat_of c s).job ≡ jobs.Reading t snapshot read → IsReadStage read.session read.stage → LeavesRead (table_at c.tables t).toast read → IsSound c
     → left (read_on_by c s t snapshot read (read_told c t read)) s < left c s
-step_falls c s t snapshot read there is made sound = by (read_told c t read) made.leaves
+step_falls c s t snapshot read there is made leaves sound = by (read_told c t read) leaves
   where
     after : Reading
     after = read_after (table_at c.tables t).toast read
@@ -443,5 +444,5 @@ step_falls c s t snapshot read there is made sound = by (read_told c t read) mad
     by (steps.Done reply) ends =
         let its = its_read c s t snapshot read there is sound in
         let now : left (read_on_by c s t snapshot read (steps.Done reply)) s ≡ 0 = ap (λ (seat : Seat). left_by (read_on_by c s t snapshot read (steps.Done reply)) s seat.job) (seat_written c.seats s (with_job c s jobs.Idle) there) in
-        let some = some_steps (table_at c.tables t).toast.index.entries read.session read.stage made.stage its.1.can.under_way (under_way (fetch_due read) its.1.can.can_step) in
+        let some = some_steps (table_at c.tables t).toast.index.entries read.session read.stage made its.1.can.under_way (under_way (fetch_due read) its.1.can.can_step) in
         omega (arith, was, now, some)

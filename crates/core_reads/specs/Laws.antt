@@ -18,10 +18,9 @@ use Rattle.command_set.specs.declared.Command.TheVariants as commands
 use Rattle.core_state.specs.declared.advance.Advance.TheVariants as advances
 use Rattle.core_state.specs.declared.seat.Job.TheVariants as jobs
 
--- what the type of a read tells of it, and the contract of its step
-pub record IsReadMade (toast : Store) (read : Reading) : Type 0 where
-  pub stage : IsReadStage read.session read.stage
-  pub leaves : Leaves toast read (store_read toast read) (read_after toast read) (answer_of toast read)
+-- what the contract of a read's step says that the step leaves
+abbrev pub LeavesRead : Store → Reading → Type 0
+LeavesRead toast read = Leaves toast read (store_read toast read) (read_after toast read) (answer_of toast read)
 
 -- what a granted command's moment answers, by the job that it begins: it goes on, or is over with this reply
 abbrev pub advance_by : Job → Reply → Advance
@@ -56,9 +55,10 @@ pub record HandlesBegin : Type 0 where
 
 -- a step of a read: a batch, or an entry of one; the last one answers the reply of the read's moment
 pub record ReadStepsKeep : Type 0 where
-  pub sound : (c : CoreState) (s t : ℕ) (snapshot : Option ℕ) (read : Reading) → IsSession c.seats s → (seat_of c s).job ≡ jobs.Reading t snapshot read → IsReadMade (table_at c.tables t).toast read → PartsAreSound c → IsSound c
+  pub sound : (c : CoreState) (s t : ℕ) (snapshot : Option ℕ) (read : Reading) → IsSession c.seats s → (seat_of c s).job ≡ jobs.Reading t snapshot read → LeavesRead (table_at c.tables t).toast read → PartsAreSound c → IsSound c
       → IsSound (read_on_by c s t snapshot read (read_told c t read))
-  pub stays : (c : CoreState) (s t : ℕ) (snapshot : Option ℕ) (read : Reading) → IsSession c.seats s → (seat_of c s).job ≡ jobs.Reading t snapshot read → IsReadMade (table_at c.tables t).toast read → IsSound c
+  pub stays : (c : CoreState) (s t : ℕ) (snapshot : Option ℕ) (read : Reading) → IsSession c.seats s → (seat_of c s).job ≡ jobs.Reading t snapshot read → LeavesRead (table_at c.tables t).toast read → IsSound c
       → Stays c s (read_on_by c s t snapshot read (read_told c t read)) (told_by_read (read_told c t read))
-  pub falls : (c : CoreState) (s t : ℕ) (snapshot : Option ℕ) (read : Reading) → IsSession c.seats s → (seat_of c s).job ≡ jobs.Reading t snapshot read → IsReadMade (table_at c.tables t).toast read → IsSound c
+  -- IsReadStage: what the type of a read tells of it. A batch with no entry left has no step that could be taken
+  pub falls : (c : CoreState) (s t : ℕ) (snapshot : Option ℕ) (read : Reading) → IsSession c.seats s → (seat_of c s).job ≡ jobs.Reading t snapshot read → IsReadStage read.session read.stage → LeavesRead (table_at c.tables t).toast read → IsSound c
       → left (read_on_by c s t snapshot read (read_told c t read)) s < left c s

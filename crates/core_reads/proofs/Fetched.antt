@@ -117,7 +117,7 @@ pub record FetchDue (c : CoreState) (s name n : ℕ) (len : ℤ) : Type 0 where
   pub at : handle_of (seat_of c s).handles name ≡ Some handle
   pub said : reply_due c s (commands.Fetch name (pos n) len) ≡ replies.Bytes (slice (held_value c.tables handle.table handle.held) (pos n) len)
 
-fetch_granted : (c : CoreState) (s name n : ℕ) (len : ℤ) → is_granted (reply_due c s (commands.Fetch name (pos n) len)) ≡ true → FetchDue c s name n len
+pub fetch_granted : (c : CoreState) (s name n : ℕ) (len : ℤ) → is_granted (reply_due c s (commands.Fetch name (pos n) len)) ≡ true → FetchDue c s name n len
 fetch_granted c s name n len granted =
     let reply = granted_due c s (commands.Fetch name (pos n) len) in
     let opened = grants_inside (seat_of c s).state (no_handle_due c s name ∷ bad_offset (pos n) ∷ []) reply granted in
@@ -139,7 +139,7 @@ handle_there c s name handle there at sound =
     let among = (found_in (λ (h : Handle). h.name == name) (seat_of c s).handles handle at).0 in
     (among, (sound_of c s there sound).handles.each handle among)
 
-fetch_comes : (c : CoreState) (s name n : ℕ) (len : ℤ) (due : FetchDue c s name n len) → IsSession c.seats s → PartsAreSound c → IsSound c
+pub fetch_comes : (c : CoreState) (s name n : ℕ) (len : ℤ) (due : FetchDue c s name n len) → IsSession c.seats s → PartsAreSound c → IsSound c
     → reply_of (table_at c.tables due.handle.table).toast (held_read due.handle.held (span_of (held_size due.handle.held) (pos n) len) s) ≡ Some (reply_due c s (commands.Fetch name (pos n) len))
 fetch_comes c s name n len due there parts sound =
     let its = (handle_there c s name due.handle there due.at sound).1 in

@@ -20,4 +20,5 @@ pub mod Handles
 pub mod Kept
 pub mod Closed
 pub mod Opened
+pub mod Made
 pub mod Proved

@@ -201,10 +201,10 @@ told_over store fetch bytes told = by_refusal (option_and_then (refusal fetch.si
     by_refusal None e = by_over (is_over (stage_after store.index (Fetching.walk fetch) (Walking.stage (Fetching.walk fetch)))) (nat_lt (Fetching.next (fetch_after store fetch)) (Walking.end (Fetching.walk fetch))) (Fetching.next (fetch_after store fetch)) (Fetching.got (fetch_after store fetch)) e
 
 -- where a row stands that is not fetching a value, and a part that is to begin, by whether there is something to fetch
-abbrev left_by : Stored → Bool → ReadStage × ReadStep
+abbrev pub left_by : Stored → Bool → ReadStage × ReadStep
 left_by stored b = cond b (read_stages.Row stored, steps.More) (read_stages.Over, steps.Done (replies.Row stored.key (row_in stored.cells)))
 
-abbrev part_by : Store → Fetching → Bool → ReadStage × ReadStep
+abbrev pub part_by : Store → Fetching → Bool → ReadStage × ReadStep
 part_by store fetch b = cond b (read_stages.PartValue (fetch_after store fetch), steps.More) (read_stages.Over, steps.Done (replies.Bytes []))
 
 left_none : (stored : Stored) → read_has_batch (row_left stored).0 ≡ false

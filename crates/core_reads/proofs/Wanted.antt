@@ -69,7 +69,7 @@ pub record GetDue (c : CoreState) (s t : ℕ) (key : ℤ) : Type 0 where
   pub found : row_seen c s t key ≡ Some old
   pub said : reply_due c s (commands.Get t key) ≡ replies.Row key (map (cell_value (table_at c.tables t).toast) old.stored.cells)
 
-get_due : (c : CoreState) (s t : ℕ) (key : ℤ) → is_granted (reply_due c s (commands.Get t key)) ≡ true → GetDue c s t key
+pub get_due : (c : CoreState) (s t : ℕ) (key : ℤ) → is_granted (reply_due c s (commands.Get t key)) ≡ true → GetDue c s t key
 get_due c s t key granted =
     let reply = granted_due c s (commands.Get t key) in
     let opened = grants_inside (seat_of c s).state (absent_due (row_seen c s t key) ∷ []) reply granted in
@@ -87,7 +87,7 @@ key_found c s t key old found =
     let its = found_is (in_view c.xacts c.snaps (seat_of c s).state) (table_at c.tables t) key old found in
     ap (λ (stored : Stored). stored.key) its.stored ∙ key_is its.version.key key its.of_key
 
-get_is : (c : CoreState) (s t : ℕ) (key : ℤ) (due : GetDue c s t key) → IsSession c.seats s → (seat_of c s).job ≡ jobs.Submitted (commands.Get t key) → PartsAreSound c → IsSound c
+pub get_is : (c : CoreState) (s t : ℕ) (key : ℤ) (due : GetDue c s t key) → IsSession c.seats s → (seat_of c s).job ≡ jobs.Submitted (commands.Get t key) → PartsAreSound c → IsSound c
     → IsGet c s t (commands.Get t key) key due.old (read_stages.Row due.old.stored) due.old.stored.cells (reply_due c s (commands.Get t key))
 get_is c s t key due there is parts sound =
     let of_table = table_in c t (fits_at c s (commands.Get t key) there sound is) in
@@ -144,7 +144,7 @@ slice_due toast n len Null e = absurd (cc)
 slice_due toast n len (Inline value) e = refl
 slice_due toast n len (Out pointer) e = refl
 
-part_found : (c : CoreState) (s t : ℕ) (key : ℤ) (column n : ℕ) (len : ℤ) → is_granted (reply_due c s (commands.Part t key column (pos n) len)) ≡ true → PartDue c s t key column n len
+pub part_found : (c : CoreState) (s t : ℕ) (key : ℤ) (column n : ℕ) (len : ℤ) → is_granted (reply_due c s (commands.Part t key column (pos n) len)) ≡ true → PartDue c s t key column n len
 part_found c s t key column n len granted =
     let reply = granted_due c s (commands.Part t key column (pos n) len) in
     let seen = row_seen c s t key in
@@ -165,7 +165,7 @@ part_found c s t key column n len granted =
 one_whole : (toast : Store) (cell : Cell) (pointer : Pointer) → AreWhole toast (cell ∷ []) → cell ≡ Out pointer → Whole toast pointer (value_in toast pointer)
 one_whole toast cell pointer whole is = whole pointer (subst (λ (x : Cell). Contains (pointers_in (x ∷ [])) pointer) (sym is) (first_in pointer [] pointer refl))
 
-part_is : (c : CoreState) (s t : ℕ) (key : ℤ) (column n : ℕ) (len : ℤ) (due : PartDue c s t key column n len) → IsSession c.seats s → (seat_of c s).job ≡ jobs.Submitted (commands.Part t key column (pos n) len) → PartsAreSound c → IsSound c
+pub part_is : (c : CoreState) (s t : ℕ) (key : ℤ) (column n : ℕ) (len : ℤ) (due : PartDue c s t key column n len) → IsSession c.seats s → (seat_of c s).job ≡ jobs.Submitted (commands.Part t key column (pos n) len) → PartsAreSound c → IsSound c
     → IsGet c s t (commands.Part t key column (pos n) len) key due.old (read_stages.Part (cell_of due.old.stored.cells column) (span_of (cell_size (cell_of due.old.stored.cells column)) (pos n) len)) (cell_of due.old.stored.cells column ∷ [])
     (reply_due c s (commands.Part t key column (pos n) len))
 part_is c s t key column n len due there is parts sound =

@@ -1,5 +1,5 @@
 -- What each line of a read keeps and does, with a field for each case.
-use Rattle.std.specs.Prelude.{Option, true, ℕ, ℤ, ◌<◌, ◌≡◌}
+use Rattle.std.specs.Prelude.{List, Option, Some, slice_get, true, ℕ, ℤ, ⊤, ◌<◌, ◌≡◌}
 use Rattle.toast_store.specs.Stores.{Store}
 use Rattle.read_steps.specs.Reads.{Leaves, Reading, answer_of, read_after, store_read}
 use Rattle.read_steps.specs.Sound.{IsReadStage}
@@ -8,12 +8,16 @@ use Rattle.command_set.specs.declared.Command.{Command}
 use Rattle.command_set.specs.declared.Reply.{Reply}
 use Rattle.core_looks.specs.Due.{reply_due}
 use Rattle.core_state.specs.Begun.{begun}
-use Rattle.core_state.specs.Events.{at_moment, left, line_granted, read_on_by, read_told, told_by_read}
+use Rattle.core_state.specs.Events.{at_moment, left, line_due, line_granted, read_on_by, read_told, told_by_read, write_on_by}
 use Rattle.core_state.specs.Facts.{IsSound, PartsAreSound}
+use Rattle.core_state.specs.Lines.{after_failing, after_submit}
 use Rattle.core_state.specs.Moves.{Runs, Stays}
 use Rattle.core_state.specs.State.{CoreState, IsSession, seat_of, table_at}
 use Rattle.core_state.specs.declared.advance.Advance.{Advance}
 use Rattle.core_state.specs.declared.seat.Job.{Job}
+use Rattle.core_state.specs.declared.seat.Seat.{Seat}
+use Rattle.write_steps.specs.Writes.{Writing}
+use Rattle.write_steps.specs.declared.stage.WriteStep.{WriteStep}
 use Rattle.command_set.specs.declared.Command.TheVariants as commands
 use Rattle.core_state.specs.declared.advance.Advance.TheVariants as advances
 use Rattle.core_state.specs.declared.seat.Job.TheVariants as jobs
@@ -62,3 +66,23 @@ pub record ReadStepsKeep : Type 0 where
   -- IsReadStage: what the type of a read tells of it. A batch with no entry left has no step that could be taken
   pub falls : (c : CoreState) (s t : ℕ) (snapshot : Option ℕ) (read : Reading) → IsSession c.seats s → (seat_of c s).job ≡ jobs.Reading t snapshot read → IsReadStage read.session read.stage → LeavesRead (table_at c.tables t).toast read → IsSound c
       → left (read_on_by c s t snapshot read (read_told c t read)) s < left c s
+
+-- ---- the reads of all sessions
+
+-- what the type of a job tells of a read under way
+abbrev pub IsJobMade : Job → Type 0
+IsJobMade jobs.Idle = ⊤
+IsJobMade (jobs.Submitted command) = ⊤
+IsJobMade (jobs.Reading t snapshot read) = IsReadStage read.session read.stage
+IsJobMade (jobs.Writing t write) = ⊤
+
+pub record ReadsAreMade (seats : List Seat) : Type 0 where
+  pub each : (i : ℕ) (seat : Seat) → slice_get seats i ≡ Some seat → IsJobMade seat.job
+
+-- that stays through each line, whatever it is due by
+pub record MadeStays : Type 0 where
+  pub submitted : (c : CoreState) (s : ℕ) (command : Command) → ReadsAreMade c.seats → ReadsAreMade (after_submit c s command).seats
+  pub moment : (c : CoreState) (s : ℕ) (command : Command) (reply : Reply) → (seat_of c s).job ≡ jobs.Submitted command → ReadsAreMade c.seats → ReadsAreMade (at_moment (line_due c s command reply) c s).seats
+  pub read : (c : CoreState) (s t : ℕ) (snapshot : Option ℕ) (read : Reading) → IsSession c.seats s → (seat_of c s).job ≡ jobs.Reading t snapshot read → ReadsAreMade c.seats → ReadsAreMade (read_on_by c s t snapshot read (read_told c t read)).seats
+  pub write : (c : CoreState) (s t : ℕ) (write : Writing) (toast : Store) (step : WriteStep) → ReadsAreMade c.seats → ReadsAreMade (write_on_by c s t write toast step).seats
+  pub failing : (c : CoreState) (s : ℕ) → ReadsAreMade c.seats → ReadsAreMade (after_failing c s).seats

@@ -1,5 +1,5 @@
 -- What holds of a session's batch, through each event.
-use Rattle.std.proofs.Common.{ℕ, ◌≡◌, ◌≢◌, ◌⊎◌, ◌+◌, ◌-◌, ◌<◌, ◌≤◌, ◌==◌, ◌&&◌, inl, inr, Bool, true, false, not, cond, if◌then◌else◌, nat_lt, nat_eq, Option, Some, None, List, [], ◌∷◌, Contains, count_by, length, drop, slice_get, refl, sym, ap, ◌∙◌, subst, arith}
+use Rattle.std.proofs.Common.{ℕ, ◌≡◌, ◌≢◌, ◌+◌, ◌-◌, ◌==◌, inl, inr, Bool, true, false, cond, if◌then◌else◌, nat_lt, nat_eq, Option, Some, None, List, [], ◌∷◌, Contains, count_by, length, drop, slice_get, refl, sym, ap, ◌∙◌, subst, arith}
 use Rattle.std.specs.Option.{option_map_or}
 use Rattle.std.proofs.lemmas.Bool.{and_right, cases_Bool}
 use Rattle.std.proofs.lemmas.Bool.Decides.{nat_tests}
@@ -7,7 +7,7 @@ use Rattle.std.proofs.lemmas.List.{drop-drop}
 use Rattle.list_facts.proofs.Members.{none_in_nil}
 use Rattle.slot_page.specs.declared.line.Tid.{Tid}
 use Rattle.slot_page.specs.Slots.{IsDead}
-use Rattle.slot_page.specs.Pages.{slot_of, item_in, with_put_on}
+use Rattle.slot_page.specs.Pages.{slot_of, with_put_on}
 use Rattle.slot_page.specs.Tids.{is_listed}
 use Rattle.slot_page.proofs.Pages.{slot_of-put}
 use Rattle.slot_page.proofs.Tids.{listed_among}
@@ -15,17 +15,16 @@ use Rattle.xact_status.specs.Xacts.{Xacts}
 use Rattle.chunk_relation.specs.declared.chunk.Chunk.{Chunk}
 use Rattle.chunk_relation.specs.Relations.{with_ended}
 use Rattle.chunk_index.specs.declared.entry.Entry.{Entry}
-use Rattle.chunk_index.specs.declared.entry.Pin.{Pin}
 use Rattle.chunk_index.specs.declared.entry.Swept.TheVariants.{Next, End, Pinned}
-use Rattle.chunk_index.specs.Leaves.{Leaf, in_leaf, is_at_most, is_from, leaf_at, leaf_of, next_bound}
-use Rattle.chunk_index.specs.Pinned.{IsPinnedFrom, holder_of, pin_of, with_pin, without_pin}
+use Rattle.chunk_index.specs.Leaves.{Leaf, in_leaf, leaf_at, leaf_of, next_bound}
+use Rattle.chunk_index.specs.Pinned.{IsPinnedFrom, holder_of, pin_of, without_pin}
 use Rattle.chunk_index.specs.Indexes.{Index, IsLeaf, after_batch, batch_of, is_swept, swept_index}
 use Rattle.chunk_index.proofs.Batches.{batch_holds, entries-batch, wanted_are}
 use Rattle.chunk_index.proofs.PinFacts.{no_holder, pin_held, pin_of-batch, pin_of-with, pin_of-without}
 use Rattle.chunk_index.proofs.PinnedLeaves.{batch_pinned_from, next_at_most, spared}
 use Rattle.toast_store.specs.declared.walk.WalkStage.{WalkStage}
 use Rattle.toast_store.specs.declared.walk.WalkStage.TheVariants.{Empty, Asking, Reading, Over}
-use Rattle.toast_store.specs.Between.{Adds, Sweeps}
+use Rattle.toast_store.specs.Between.{Adds}
 use Rattle.toast_store.specs.Stores.{Store, IsStore, Names}
 use Rattle.toast_store.specs.Walks.{Walking, IsBatchHeld, IsStage, MayAsk, batch_left, entry_at, index_after, index_walked, new_walk, stage_after, stage_of_batch, walk_after, wanted_by}
 use Rattle.toast_store.proofs.Held.{add_keeps_batch, batch_named, held_new, held_stepped, sweep_keeps_batch, taken_left}
@@ -34,7 +33,7 @@ use Rattle.toast_vacuum.specs.declared.stage.Stage.TheVariants.{Pruning, Sweepin
 use Rattle.toast_vacuum.specs.Vacuums.{Vacuuming}
 use Rattle.toast_vacuum.specs.Machines.{after_leaf, after_pages, begun, on_page, target_at, vacuum_at}
 use Rattle.toast_vacuum.specs.Targets.{toast_ops}
-use Rattle.toast_vacuum.specs.Holds.{BatchHolds, IsCursor, IsUnpassed, IsUnswept, VacuumHolds}
+use Rattle.toast_vacuum.specs.Holds.{BatchHolds, IsUnpassed, IsUnswept, VacuumHolds}
 use Rattle.toast_vacuum.specs.Laws.{BatchesStand}
 use Rattle.toast_vacuum.proofs.Ascending.{in_drop}
 use Rattle.toast_vacuum.proofs.Cursors.{at_most_leaf, cursor_leaf}
@@ -244,5 +243,6 @@ batches_stand = record {
   walked = λ xacts s v walk sound holds is may now. walked_by s v.stage walk (asked_at xacts s v v.stage sound holds) is may now;
   walked_alone = λ s walk sound is may now. walked_by s Ended walk (λ leaf e there lies dead. tt) is may now;
   step = λ xacts s v walk sound holds now. step_at xacts s v walk v.stage sound holds now;
+  named = λ s walk stage e sound holds left. (batch_named s walk sound holds.held).each e left;
   taken = taken;
 }

@@ -11,9 +11,8 @@ use Rattle.slot_page.specs.declared.line.Tid.{Tid}
 use Rattle.slot_page.specs.declared.line.LinePointer.{LinePointer}
 use Rattle.slot_page.specs.declared.line.LinePointer.TheVariants.{Normal, Dead, Unused}
 use Rattle.slot_page.specs.Slots.{IsDead, is_unused, item_of, slot_at, with_put}
-use Rattle.slot_page.specs.Tids.{tid_cmp}
 use Rattle.slot_page.specs.DeadSlots.{dead_tids, is_dead_line}
-use Rattle.slot_page.specs.Pages.{page_at, slot_of, item_in, fit_page, put_tid, with_put_on, written}
+use Rattle.slot_page.specs.Pages.{page_at, slot_of, item_in, fit_page, with_put_on, written}
 use Rattle.slot_page.proofs.Pages.{put_was_free, slot_of-put, slot_of-written, written_here}
 use Rattle.slot_page.proofs.Gathered.{are_dead_tids, dead_tids_are}
 use Rattle.xact_status.specs.declared.Stamp.{Stamp}
@@ -22,11 +21,10 @@ use Rattle.heap_prune.specs.Lines.{is_dead_item, is_newly_dead, pruned}
 use Rattle.heap_prune.specs.Prunes.{with_pruned}
 use Rattle.heap_prune.proofs.Events.{none_dead_after, slot_of-pruned}
 use Rattle.chunk_index.specs.declared.entry.Entry.{Entry}
-use Rattle.toast_vacuum.specs.declared.stage.Stage.{Stage}
 use Rattle.toast_vacuum.specs.declared.stage.Stage.TheVariants.{Pruning, Sweeping, Reaping, Ended}
 use Rattle.toast_vacuum.specs.Vacuums.{Vacuuming}
 use Rattle.toast_vacuum.specs.Machines.{after_page, after_pages, after_reap, begun, on_page}
-use Rattle.toast_vacuum.specs.Holds.{IsHorizon, IsLater, IsPlace, IsSpared, IsToMake, PagesHold, StartHolds, freed, made, waiting, waiting_at}
+use Rattle.toast_vacuum.specs.Holds.{IsLater, IsPlace, IsSpared, IsToMake, PagesHold, StartHolds, freed, made, waiting, waiting_at}
 use Rattle.toast_vacuum.proofs.Ascending.{ascending_append, ascending_drop, beyond, eq_of, in_drop, lower_page, ne_of, on_page_in, parted, where_ascending}
 use Rattle.toast_vacuum.proofs.Statuses.{IsAfter, alive_before, ended_alive, new_alive, spared_after, spared_alive, spared_ended, spared_put}
 

@@ -1,5 +1,5 @@
 -- What holds of a relation of rows and a vacuum of it, through each event, and what its steps and its end tell.
-use Rattle.std.proofs.Common.{ℕ, ℤ, ◌≡◌, ◌≢◌, ◌⊎◌, ◌+◌, ◌<◌, ◌≤◌, inl, inr, Bool, true, false, not, cond, nat_lt, nat_eq, Option, Some, None, List, [], ◌∷◌, ◌++◌, Contains, filter, length, length-set, slice_set, drop, refl, sym, ap, ◌∙◌, subst, arith}
+use Rattle.std.proofs.Common.{ℕ, ◌≡◌, ◌⊎◌, ◌+◌, ◌<◌, inl, inr, Bool, true, false, not, cond, nat_lt, nat_eq, Some, None, List, [], ◌∷◌, Contains, filter, length, length-set, slice_set, drop, refl, sym, ap, ◌∙◌, subst, arith}
 use Rattle.std.specs.Ordering.{is_lt}
 use Rattle.std.proofs.lemmas.List.Elements.{Contains-append_cases}
 use Rattle.list_facts.proofs.Members.{none_in_nil, cases_in, filter_holds}
@@ -15,7 +15,7 @@ use Rattle.row_versions.specs.declared.version.Version.{Version}
 use Rattle.row_versions.specs.Keys.{entry, entry_cmp, with_entry}
 use Rattle.row_versions.specs.Versions.{ended, is_dead_version, version_stamp}
 use Rattle.row_versions.specs.Relations as rows
-use Rattle.row_versions.specs.Relations.{IsRelation, Names, Pages, Relation, pages_ended, version_in, with_reaped, with_version}
+use Rattle.row_versions.specs.Relations.{Names, Pages, Relation, pages_ended, version_in, with_reaped, with_version}
 use Rattle.row_versions.proofs.Entries.{unnamed_after}
 use Rattle.row_versions.proofs.Events.{assigned_pruned, assigned_reaped, item_of-pruned}
 use Rattle.toast_vacuum.specs.declared.stage.Stage.{Stage}

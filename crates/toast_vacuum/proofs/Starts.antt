@@ -1,15 +1,12 @@
 -- What a vacuum has removed since its start stays removed.
-use Rattle.std.proofs.Common.{ℕ, ◌≡◌, ◌+◌, inl, inr, true, Option, Some, None, List, drop, length, sym, ap, subst, arith}
-use Rattle.slot_page.specs.declared.line.Tid.{Tid}
+use Rattle.std.proofs.Common.{◌+◌, inl, inr, Option, List, drop, length, sym, subst, arith}
 use Rattle.slot_page.specs.declared.line.LinePointer.{LinePointer}
-use Rattle.slot_page.specs.Pages.{item_in}
 use Rattle.xact_status.specs.declared.Stamp.{Stamp}
 use Rattle.xact_status.specs.Xacts.{Xacts}
 use Rattle.chunk_relation.specs.Chunks.{chunk_stamp}
 use Rattle.chunk_relation.specs.Relations.{with_ended}
 use Rattle.chunk_index.specs.declared.entry.Entry.{Entry}
 use Rattle.chunk_index.specs.declared.entry.Swept.{Swept}
-use Rattle.chunk_index.specs.declared.entry.Swept.TheVariants.{Next, End, Pinned}
 use Rattle.toast_store.specs.Stores.{Store}
 use Rattle.row_versions.specs.Versions.{version_stamp}
 use Rattle.row_versions.specs.Relations as rows
@@ -22,7 +19,7 @@ use Rattle.toast_vacuum.specs.Targets.{row_ops, toast_ops}
 use Rattle.toast_vacuum.specs.Holds.{IsLater, RowVacuumHolds, StartHolds, VacuumHolds}
 use Rattle.toast_vacuum.specs.Laws.{StartsStand}
 use Rattle.toast_vacuum.proofs.Statuses.{later_aborted, later_assigned, later_committed}
-use Rattle.toast_vacuum.proofs.PagesKept.{freed_pages, start_begun, start_ended, start_pruned, start_put, start_reaped}
+use Rattle.toast_vacuum.proofs.PagesKept.{start_begun, start_ended, start_pruned, start_put, start_reaped}
 use Rattle.toast_vacuum.proofs.Rows.{rows_reaped, version_ends}
 use Rattle.toast_vacuum.proofs.StoreSteps.{chunk_ends, store_reaped}
 

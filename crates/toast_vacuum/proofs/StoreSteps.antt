@@ -1,7 +1,6 @@
 -- What holds of a store and a vacuum of it, through each event.
-use Rattle.std.proofs.Common.{ℕ, ◌≡◌, ◌≢◌, ◌⊎◌, ◌+◌, ◌<◌, ◌≤◌, inl, inr, Bool, true, false, not, cond, nat_lt, nat_eq, Option, Some, None, List, [], ◌∷◌, ◌++◌, Contains, count_by, length, length-set, slice_set, drop, refl, sym, ap, ◌∙◌, subst, arith}
+use Rattle.std.proofs.Common.{ℕ, ◌≡◌, ◌⊎◌, ◌+◌, inl, inr, Bool, true, false, cond, nat_lt, nat_eq, Option, Some, None, List, [], ◌∷◌, Contains, count_by, length, length-set, slice_set, drop, refl, sym, ap, ◌∙◌, subst, arith}
 use Rattle.std.specs.Option.{option_map_or}
-use Rattle.std.specs.List.Sorted.{IsStrictlySortedBy}
 use Rattle.std.proofs.lemmas.Bool.{cases_Bool, not_from_false}
 use Rattle.list_facts.proofs.Members.{none_in_nil}
 use Rattle.slot_page.specs.declared.line.Tid.{Tid}
@@ -14,14 +13,13 @@ use Rattle.slot_page.proofs.Pages.{slot_of-written}
 use Rattle.slot_page.proofs.Tids.{among_listed, listed_among}
 use Rattle.xact_status.specs.Xacts.{Xacts, is_running, after_assign, after_commit, after_abort}
 use Rattle.chunk_relation.specs.declared.chunk.Chunk.{Chunk}
-use Rattle.chunk_relation.specs.Chunks.{chunk_stamp, ended, is_newly_dead}
+use Rattle.chunk_relation.specs.Chunks.{chunk_stamp, ended}
 use Rattle.chunk_relation.specs.Relations.{AreAssigned, Pages, with_ended}
 use Rattle.chunk_index.specs.declared.entry.Entry.{Entry}
 use Rattle.chunk_index.specs.declared.entry.Swept.TheVariants.{Next, End, Pinned}
-use Rattle.chunk_index.specs.Entries.{with_entry}
 use Rattle.chunk_index.specs.Leaves.{Leaf, is_below, is_from, leaf_at, next_bound}
 use Rattle.chunk_index.specs.Pinned.{holder_of, without_pin}
-use Rattle.chunk_index.specs.Indexes.{Index, IsLeaf, after_batch, bounds_with, is_swept, swept_index, unswept}
+use Rattle.chunk_index.specs.Indexes.{IsLeaf, after_batch, bounds_with, is_swept, swept_index, unswept}
 use Rattle.chunk_index.proofs.Inserts.{entry_was}
 use Rattle.chunk_index.proofs.PinnedLeaves.{next_stays}
 use Rattle.chunk_index.proofs.Splits.{leaf_kept}
@@ -33,7 +31,7 @@ use Rattle.toast_vacuum.specs.declared.stage.Stage.TheVariants.{Pruning, Sweepin
 use Rattle.toast_vacuum.specs.Vacuums.{Vacuuming}
 use Rattle.toast_vacuum.specs.Machines.{CanStep, after_leaf, after_pages, begun, on_page, reaped_all, target_at, vacuum_at}
 use Rattle.toast_vacuum.specs.Targets.{toast_ops}
-use Rattle.toast_vacuum.specs.Holds.{IsCursor, IsHorizon, IsUnswept, PagesHold, SweepHolds, VacuumHolds, waiting, waiting_at}
+use Rattle.toast_vacuum.specs.Holds.{IsCursor, IsHorizon, IsUnswept, PagesHold, VacuumHolds, waiting, waiting_at}
 use Rattle.toast_vacuum.specs.Laws.{VacuumsStand}
 use Rattle.toast_vacuum.proofs.Ascending.{ascending_drop, in_drop, reapable, sorted_of}
 use Rattle.toast_vacuum.proofs.Cursors.{cursor_kept, cursor_leaf}

@@ -1,5 +1,5 @@
 -- What a step of a store's vacuum does and answers, and what its end tells.
-use Rattle.std.proofs.Common.{ℕ, ◌≡◌, ◌≢◌, ◌⊎◌, ◌+◌, ◌<◌, ◌≤◌, ◌==◌, inl, inr, Bool, true, false, cond, Option, Some, None, List, [], ◌∷◌, Contains, count_by, find, length, drop, refl, sym, ap, ◌∙◌, subst, arith}
+use Rattle.std.proofs.Common.{ℕ, ◌≡◌, ◌⊎◌, ◌+◌, ◌<◌, ◌≤◌, ◌==◌, inl, inr, true, false, cond, Option, Some, None, List, [], ◌∷◌, Contains, count_by, find, length, drop, refl, sym, ap, ◌∙◌, subst, arith}
 use Rattle.std.specs.Option.{option_map, option_map_or}
 use Rattle.std.specs.List.Sorted.{IsStrictlySortedBy}
 use Rattle.std.specs.declared.cmp.Ordering.TheVariants.{Less}
@@ -26,16 +26,15 @@ use Rattle.chunk_index.specs.Leaves.{Leaf, leaf_at, next_bound}
 use Rattle.chunk_index.specs.Pinned.{holder_of, pin_cmp, pin_of}
 use Rattle.chunk_index.specs.Indexes.{Index, IsLeaf, is_swept, sweep_answer, swept_index, unswept}
 use Rattle.chunk_index.proofs.PinFacts.{all_in, holder_is, no_holder, pin_held}
-use Rattle.toast_store.specs.Stores.{Store, IsStore, Names, NamesChunk}
+use Rattle.toast_store.specs.Stores.{Store, IsStore, Names}
 use Rattle.toast_vacuum.specs.declared.stage.Stage.{Stage}
 use Rattle.toast_vacuum.specs.declared.stage.Stage.TheVariants.{Pruning, Sweeping, Reaping, Ended}
-use Rattle.toast_vacuum.specs.declared.stage.VacuumStep.{VacuumStep}
 use Rattle.toast_vacuum.specs.declared.stage.VacuumStep.TheVariants as steps
 use Rattle.toast_vacuum.specs.Ops.{Ops}
 use Rattle.toast_vacuum.specs.Vacuums.{Vacuuming}
 use Rattle.toast_vacuum.specs.Machines.{after_leaf, answer_at, left_at, on_page, steps_left, target_at, told_by, vacuum_at}
 use Rattle.toast_vacuum.specs.Targets.{toast_ops}
-use Rattle.toast_vacuum.specs.Holds.{IsSpared, PagesHold, StartHolds, VacuumHolds, waiting}
+use Rattle.toast_vacuum.specs.Holds.{IsSpared, PagesHold, StartHolds, VacuumHolds}
 use Rattle.toast_vacuum.specs.Laws.{DoneTells, StepsTell}
 use Rattle.toast_vacuum.proofs.Cursors.{cursor_leaf}
 use Rattle.toast_vacuum.proofs.Lefts.{leaves_fall, leaves_some, left_page, left_reaped}
@@ -180,5 +179,6 @@ steps_tell = record {
   given = λ xacts s v given. given_at xacts s v v.stage given;
   pinned = λ xacts s v from session sound holds at told. pinned_at s v from session sound (at_cursor xacts s v from holds at).sweep.cursor (ap (answer_at toast_ops v s) (sym at) ∙ told);
   waits = λ xacts s v from other sound holds at pins. let found = waits_at s v from other sound (at_cursor xacts s v from holds at).sweep.cursor pins in (found.0, ap (answer_at toast_ops v s) at ∙ found.1);
+  last = λ s v removed is. ap (left_at toast_ops v.pages s) (at_done toast_ops v s v.stage removed is);
   left = λ xacts s v sound holds told. left_step xacts s v v.stage sound holds told;
 }

@@ -10,11 +10,10 @@ use Rattle.xact_status.specs.declared.Stamp.{Stamp}
 use Rattle.xact_status.specs.Versions.{is_dead}
 use Rattle.xact_status.specs.Xacts.{Xacts, is_aborted, is_committed, is_running, next_xid}
 use Rattle.chunk_relation.specs.Chunks.{chunk_stamp}
-use Rattle.chunk_relation.specs.Relations.{Pages}
 use Rattle.chunk_index.specs.declared.entry.Entry.{Entry}
 use Rattle.chunk_index.specs.Leaves.{Leaf, is_at_most, is_from}
 use Rattle.chunk_index.specs.Pinned.{IsPinnedFrom, pin_of}
-use Rattle.chunk_index.specs.Indexes.{Index, IsLeaf}
+use Rattle.chunk_index.specs.Indexes.{IsLeaf}
 use Rattle.toast_store.specs.Stores.{Store}
 use Rattle.toast_store.specs.Walks.{Walking, IsBatchHeld, batch_left}
 use Rattle.row_versions.specs.declared.keys.KeyEntry.{KeyEntry}

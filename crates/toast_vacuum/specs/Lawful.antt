@@ -1,5 +1,5 @@
 -- Both targets keep what the machine needs of them.
-use Rattle.std.proofs.Common.{ℕ, ◌≡◌, ◌+◌, ◌≤◌, inl, inr, Bool, true, false, cond, suc, Option, Some, None, List, [], ◌∷◌, length, map, slice_set, count_by, refl, sym, ap, ◌∙◌, subst, arith}
+use Rattle.std.proofs.Common.{ℕ, ◌≡◌, ◌≤◌, inl, inr, Bool, true, false, cond, suc, Option, Some, None, List, [], ◌∷◌, length, map, slice_set, count_by, refl, sym, ap, ◌∙◌, subst, arith}
 use Rattle.std.specs.Option.{option_map_or}
 use Rattle.std.proofs.lemmas.Bool.{cases_lt}
 use Rattle.std.proofs.lemmas.List.{get_or-set_same, get_or_past}
@@ -8,12 +8,11 @@ use Rattle.slot_page.specs.declared.line.Tid.{Tid}
 use Rattle.slot_page.specs.declared.line.LinePointer.{LinePointer}
 use Rattle.slot_page.specs.declared.line.LinePointer.TheVariants.{Dead, Unused}
 use Rattle.slot_page.specs.Slots.{IsDead}
-use Rattle.slot_page.specs.Pages.{page_at, slot_of}
+use Rattle.slot_page.specs.Pages.{page_at}
 use Rattle.slot_page.specs.DeadSlots.{dead_tids, is_dead_line, tids_where}
 use Rattle.slot_page.proofs.Pages.{written_elsewhere}
 use Rattle.chunk_relation.specs.Chunks.{is_newly_dead}
 use Rattle.chunk_index.specs.declared.entry.Entry.{Entry}
-use Rattle.chunk_index.specs.declared.entry.Swept.{Swept}
 use Rattle.chunk_index.specs.declared.entry.Swept.TheVariants.{Next, End, Pinned}
 use Rattle.chunk_index.specs.Leaves.{Leaf, leaf_at, next_bound}
 use Rattle.chunk_index.specs.Pinned.{holder_of}

@@ -1,20 +1,19 @@
 -- What each event keeps while a vacuum is under way, and what follows from it.
 -- A put's inserter and an ender are running transactions of other sessions. `target_at`, `vacuum_at` and `answer_at` are what `Vacuum::step` makes of its target and of the vacuum and what it answers, at the stage where the vacuum stands; CanStep is what it asks.
-use Rattle.std.specs.Prelude.{ℕ, ℤ, ◌≡◌, ◌≢◌, ◌<◌, ◌≤◌, ◌⊎◌, true, false, Option, Some, None, List, [], Contains, length}
+use Rattle.std.specs.Prelude.{ℕ, ◌≡◌, ◌≢◌, ◌<◌, ◌≤◌, ◌⊎◌, true, false, Option, Some, None, List, Contains, length}
 use Rattle.slot_page.specs.declared.line.Tid.{Tid}
 use Rattle.slot_page.specs.Slots.{IsDead}
 use Rattle.slot_page.specs.Pages.{slot_of, item_in, with_put_on}
-use Rattle.xact_status.specs.Versions.{is_dead}
 use Rattle.xact_status.specs.Xacts.{Xacts, is_running, after_assign, after_commit, after_abort}
 use Rattle.chunk_relation.specs.declared.chunk.Chunk.{Chunk}
 use Rattle.chunk_relation.specs.Chunks.{chunk_stamp, is_dead_chunk}
 use Rattle.chunk_relation.specs.Relations.{AreAssigned, with_ended}
 use Rattle.chunk_index.specs.declared.entry.Entry.{Entry}
 use Rattle.chunk_index.specs.Pinned.{pin_of, without_pin}
-use Rattle.chunk_index.specs.Indexes.{Index, after_batch, bounds_with}
+use Rattle.chunk_index.specs.Indexes.{after_batch, bounds_with}
 use Rattle.toast_store.specs.Between.{Adds}
 use Rattle.toast_store.specs.Stores.{Store, IsStore, Names, NamesChunk}
-use Rattle.toast_store.specs.Walks.{Walking, IsStage, MayAsk, entry_at, index_walked, new_walk, walk_after}
+use Rattle.toast_store.specs.Walks.{Walking, IsStage, MayAsk, batch_left, entry_at, index_walked, new_walk, walk_after}
 use Rattle.row_versions.specs.declared.keys.KeyEntry.{KeyEntry}
 use Rattle.row_versions.specs.declared.version.Version.{Version}
 use Rattle.row_versions.specs.Versions.{is_dead_version, version_stamp}
@@ -22,9 +21,7 @@ use Rattle.row_versions.specs.Relations as rows
 use Rattle.row_versions.specs.Relations.{Relation, IsRelation, version_in, with_version}
 use Rattle.toast_vacuum.specs.declared.stage.Stage.{Stage}
 use Rattle.toast_vacuum.specs.declared.stage.Stage.TheVariants.{Sweeping, Ended}
-use Rattle.toast_vacuum.specs.declared.stage.VacuumStep.{VacuumStep}
 use Rattle.toast_vacuum.specs.declared.stage.VacuumStep.TheVariants as steps
-use Rattle.toast_vacuum.specs.Ops.{Ops}
 use Rattle.toast_vacuum.specs.Vacuums.{Vacuuming}
 use Rattle.toast_vacuum.specs.Machines.{CanStep, answer_at, begun, steps_left, target_at, vacuum_at}
 use Rattle.toast_vacuum.specs.Targets.{row_ops, toast_ops}
@@ -64,7 +61,8 @@ pub record BatchesStand : Type 0 where
   pub walked_alone : (s : Store) (walk : Walking) → IsStore s → IsStage walk.first walk.end walk.stage → MayAsk s.index walk.session walk.stage → BatchHolds s walk Ended → BatchHolds (record s { index = index_walked s.index walk }) (walk_after s.index walk) Ended
   -- the vacuum's step, whichever it is
   pub step : (xacts : Xacts) (s : Store) (v : Vacuuming) (walk : Walking) → IsStore s → VacuumHolds xacts s v → BatchHolds s walk v.stage → BatchHolds (target_at toast_ops xacts v s v.stage) walk (Vacuuming.stage (vacuum_at toast_ops xacts v s v.stage))
-  -- so an entry that a walk takes stands in the index and names a chunk of its id and number or a dead slot: no slot that was freed, and no other value's chunk
+  -- so each entry still to be taken names a chunk of its id and number or a dead slot, and the one that a walk takes stands in the index: no slot that was freed, and no other value's chunk
+  pub named : (s : Store) (walk : Walking) (stage : Stage) (e : Entry) → IsStore s → BatchHolds s walk stage → Contains (batch_left walk.stage) e → Names e (slot_of s.rel.pages e.tid)
   pub taken : (s : Store) (walk : Walking) (stage : Stage) (e : Entry) → IsStore s → BatchHolds s walk stage → entry_at walk.stage ≡ Some e → Contains s.index.entries e × Names e (slot_of s.rel.pages e.tid)
 
 -- what a step of a store's vacuum does and answers
@@ -79,7 +77,8 @@ pub record StepsTell : Type 0 where
       → (pin_of s.index.pins session ≡ Some from) × ((other : ℕ) → pin_of s.index.pins other ≡ Some from → session ≤ other)
   pub waits : (xacts : Xacts) (s : Store) (v : Vacuuming) (from : Option Entry) (other : ℕ) → IsStore s → VacuumHolds xacts s v → v.stage ≡ Sweeping from → pin_of s.index.pins other ≡ Some from
       → (session : ℕ) × (answer_at toast_ops v s v.stage ≡ steps.Pinned session)
-  -- `More` leaves fewer steps, and some
+  -- `More` leaves fewer steps, and some; `Done` comes where one is left
+  pub last : (s : Store) (v : Vacuuming) (removed : ℕ) → answer_at toast_ops v s v.stage ≡ steps.Done removed → steps_left toast_ops v s ≡ 1
   pub left : (xacts : Xacts) (s : Store) (v : Vacuuming) → IsStore s → VacuumHolds xacts s v → answer_at toast_ops v s v.stage ≡ steps.More
       → (0 < steps_left toast_ops (vacuum_at toast_ops xacts v s v.stage) (target_at toast_ops xacts v s v.stage)) × (steps_left toast_ops (vacuum_at toast_ops xacts v s v.stage) (target_at toast_ops xacts v s v.stage) < steps_left toast_ops v s)
 

@@ -1,0 +1,9 @@
+pub mod Free
+pub mod Slicing
+pub mod Using
+pub mod Made
+pub mod Found
+pub mod Few
+pub mod Opening
+pub mod Fetching
+pub mod Closing

@@ -1,0 +1,21 @@
+use Rattle.std.proofs.Common.{ap, refl, sym, ◌∙◌}
+use Rattle.std.specs.Option.{option_map}
+use Rattle.core_parts.proofs.Made.{open_is}
+use Rattle.core_parts.specs.Found.{as_old}
+use Rattle.core_writing.proofs.Made.{absent_made, answered_made, can_fail}
+use Rattle.core_writing.proofs.Replies.{update_absent}
+use Rattle.command_set.specs.declared.Command.TheVariants as commands
+use Rattle.core_writing.proofs.writes.update.Goals as goal
+
+pub returns-in_default-clause-ok : goal.returns-in_default-clause-ok
+returns-in_default-clause-ok c =
+    let inside = open_is _ _ _ _ (sym c.state.ensures ∙ c.in-Open.is) in
+    let none = sym c.in_ok-found-in-Open.ensures ∙ ap (option_map as_old) c.in_default.is in
+    absent_made c.args.core.now c.args.session c.args.table (commands.Update c.args.table c.args.key.now c.args.sets.now) c.absent.new.core c.absent.result c.requires.ready.there (update_absent c.args.core.now c.args.session c.args.table c.args.key.now c.args.sets.now inside none) refl c.absent.ensures.ok c.absent.ensures.done
+
+pub answer-requires : goal.answer-requires
+answer-requires c = λ reply e. can_fail c.args.core.now c.args.session (commands.Update c.args.table c.args.key.now c.args.sets.now) c.begin_update-begun.new.core c.begin_update-begun.result reply c.requires.ready.there c.requires.ready.sound c.begin_update-begun.ensures.err e
+
+pub returns-in-Some-clause-ok : goal.returns-in-Some-clause-ok
+returns-in-Some-clause-ok c =
+    (answered_made c.args.core.now c.args.session (commands.Update c.args.table c.args.key.now c.args.sets.now) c.begin_update-begun.new.core c.answer.new.core c.begin_update-begun.result c.answer.result c.requires.ready.there c.begin_update-begun.ensures.ok c.begin_update-begun.ensures.err c.answer.ensures).ok

@@ -6,7 +6,7 @@ use Rattle.std.proofs.lemmas.Bool.Decides.{nat_tests}
 use Rattle.command_set.specs.declared.Command.{Command}
 use Rattle.command_set.specs.declared.Script.{Script}
 use Rattle.script_text.specs.Scripts.{with_command, with_line, is_within, limited, command_count, byte_count, turn_count, command_bytes}
-use Rattle.script_text.specs.declared.fault.LineFault.TheVariants.{TooMany}
+use Rattle.script_words.specs.declared.fault.LineFault.TheVariants.{TooMany}
 use Rattle.script_text.specs.declared.forms.Line.TheVariants as line
 
 -- a count that each session has by its commands

@@ -1,6 +1,6 @@
-pub mod Counted
 pub mod Counts
-pub mod Cuts
-pub mod Digits
+pub mod Proved
 pub mod Rooms
+pub mod Rules
 pub mod Steps
+pub mod Suited

@@ -1,12 +1,12 @@
 -- A command that is read from a line in its place has a session.
 use Rattle.std.proofs.Common.{◌≡◌, ◌<◌, ◌&&◌, ℕ, Bool, true, false, not, List, [], ◌∷◌, length, Result, Ok, Err, subst, arith}
 use Rattle.command_set.specs.declared.Script.{Script}
-use Rattle.script_text.specs.Reading.{◌>>=◌}
+use Rattle.script_words.specs.Reading.{◌>>=◌}
 use Rattle.script_text.specs.Scripts.{Read, is_placed, is_none_of, line_in}
 use Rattle.script_text.specs.Drafts.{HasRoom}
-use Rattle.script_text.specs.declared.fault.LineFault.{LineFault}
+use Rattle.script_words.specs.declared.fault.LineFault.{LineFault}
 use Rattle.script_text.specs.declared.forms.Form.{Form}
-use Rattle.script_text.specs.declared.forms.Form.TheVariants.{Ids, Table, Session, Begin, Commit, Rollback, Get, Insert, Go, Loop}
+use Rattle.script_text.specs.declared.forms.Form.TheVariants as forms
 use Rattle.script_text.specs.declared.forms.Line.{Line}
 use Rattle.script_text.specs.declared.forms.Line.TheVariants as line
 
@@ -22,13 +22,9 @@ some_session (x ∷ xs) b h = omega arith
 
 pub placed_room : (read : Read) (form : Form) (words : List (List ℕ)) (l : Line) → is_placed read form ≡ true → line_in read.script form words ≡ Ok l → HasRoom read.script l
 unfolding line_in
-placed_room read Ids words l h e = made_room read.script (λ x. line.Ids x.0 x.1) _ l (λ x. tt) e
-placed_room read Table words l h e = made_room read.script line.Table _ l (λ x. tt) e
-placed_room read Session words l h e = made_room read.script (λ x. line.Session) _ l (λ x. tt) e
-placed_room read Begin words l h e = made_room read.script line.Command _ l (λ x. some_session read.script.sessions _ h) e
-placed_room read Commit words l h e = made_room read.script line.Command _ l (λ x. some_session read.script.sessions _ h) e
-placed_room read Rollback words l h e = made_room read.script line.Command _ l (λ x. some_session read.script.sessions _ h) e
-placed_room read Get words l h e = made_room read.script line.Command _ l (λ x. some_session read.script.sessions _ h) e
-placed_room read Insert words l h e = made_room read.script line.Command _ l (λ x. some_session read.script.sessions _ h) e
-placed_room read Go words l h e = made_room read.script line.Passage _ l (λ x. tt) e
-placed_room read Loop words l h e = made_room read.script line.Passage _ l (λ x. tt) e
+placed_room read forms.Ids words l h e = made_room read.script (λ x. line.Ids x.0 x.1) _ l (λ x. tt) e
+placed_room read forms.Table words l h e = made_room read.script line.Table _ l (λ x. tt) e
+placed_room read forms.Session words l h e = made_room read.script (λ x. line.Session) _ l (λ x. tt) e
+placed_room read (forms.Command form) words l h e = made_room read.script line.Command _ l (λ x. some_session read.script.sessions _ h) e
+placed_room read forms.Go words l h e = made_room read.script line.Passage _ l (λ x. tt) e
+placed_room read forms.Loop words l h e = made_room read.script line.Passage _ l (λ x. tt) e

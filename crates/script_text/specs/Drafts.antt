@@ -4,9 +4,9 @@ use Rattle.command_set.specs.declared.Script.{Script}
 use Rattle.script_text.specs.Scripts.{Read, command_count, byte_count, turn_count, is_within}
 use Rattle.script_text.specs.declared.draft.Draft.{Draft}
 use Rattle.script_text.specs.declared.reader.Reader.{Reader}
-use Rattle.script_text.specs.declared.fault.LineFault.{LineFault}
-use Rattle.script_text.specs.declared.fault.Refusal.{Refusal}
-use Rattle.script_text.specs.declared.fault.Refusal.TheVariants.{Fault, Memory}
+use Rattle.script_words.specs.declared.fault.LineFault.{LineFault}
+use Rattle.script_words.specs.declared.fault.Refusal.{Refusal}
+use Rattle.script_words.specs.declared.fault.Refusal.TheVariants.{Fault, Memory}
 use Rattle.script_text.specs.declared.forms.Line.{Line}
 use Rattle.script_text.specs.declared.forms.Line.TheVariants as line
 

@@ -1,7 +1,7 @@
 -- From a line's refusal to what is told of the script.
 use Rattle.std.specs.Prelude.{ℕ}
-use Rattle.script_text.specs.declared.fault.Refusal.{Refusal}
-use Rattle.script_text.specs.declared.fault.Refusal.TheVariants.{Fault, Memory}
+use Rattle.script_words.specs.declared.fault.Refusal.{Refusal}
+use Rattle.script_words.specs.declared.fault.Refusal.TheVariants.{Fault, Memory}
 use Rattle.script_text.specs.declared.fault.ScriptFault.{ScriptFault}
 use Rattle.script_text.specs.declared.fault.ScriptFault.TheVariants as script
 

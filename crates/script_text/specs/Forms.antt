@@ -1,22 +1,19 @@
 -- The forms of lines: by which word each begins, and what the words after it say.
-use Rattle.std.specs.Prelude.{ℕ, ◌+◌, List, [], ◌∷◌, codes, Option, Some, None, Result, Ok, Err, if◌then◌else◌}
-use Rattle.std.specs.Option.{ok_or}
+use Rattle.std.specs.Prelude.{ℕ, ◌&&◌, nat_le, List, length, codes, Option, Some, Result, Ok, Err, if◌then◌else◌}
+use Rattle.std.specs.Option.{ok_or, option_map}
 use Rattle.std.specs.Str.{bytes_eq}
-use Rattle.tuple_layout.specs.declared.Storage.TheVariants.{External}
 use Rattle.tuple_layout.specs.Schemas.{TableSchema}
-use Rattle.command_set.specs.declared.Command.{Command}
-use Rattle.command_set.specs.declared.Command.TheVariants as commands
-use Rattle.command_set.specs.declared.Level.TheVariants.{Rc}
 use Rattle.command_set.specs.declared.Passage.{Passage}
-use Rattle.script_text.specs.Numbers.{number_in, key_in}
-use Rattle.script_text.specs.Words.{counted, word_at, first_of, first_of_all, table_in, columns_of}
-use Rattle.script_text.specs.Values.{values_in}
-use Rattle.script_text.specs.Items.{items_in}
-use Rattle.script_text.specs.Reading.{◌>>=◌}
-use Rattle.script_text.specs.declared.fault.LineFault.{LineFault}
-use Rattle.script_text.specs.declared.fault.LineFault.TheVariants.{BadName, BadNumber}
+use Rattle.script_words.specs.Numbers.{number_in}
+use Rattle.script_words.specs.Words.{counted, first_of, word_at}
+use Rattle.script_words.specs.Names.{storages_in}
+use Rattle.script_words.specs.Items.{items_in}
+use Rattle.script_words.specs.Reading.{◌>>=◌}
+use Rattle.script_words.specs.declared.fault.LineFault.{LineFault}
+use Rattle.script_words.specs.declared.fault.LineFault.TheVariants.{BadNumber, WordCount}
+use Rattle.script_text.specs.Commands.{command_form_in}
 use Rattle.script_text.specs.declared.forms.Form.{Form}
-use Rattle.script_text.specs.declared.forms.Form.TheVariants.{Ids, Table, Session, Begin, Commit, Rollback, Get, Insert, Go, Loop}
+use Rattle.script_text.specs.declared.forms.Form.TheVariants.{Ids, Table, Session, Command, Go, Loop}
 
 -- the form that a first word begins
 unfoldable pub form_in : List ℕ → Option Form
@@ -24,14 +21,9 @@ form_in word =
     if bytes_eq word (codes "ids") then Some Ids
     else if bytes_eq word (codes "table") then Some Table
     else if bytes_eq word (codes "session") then Some Session
-    else if bytes_eq word (codes "begin") then Some Begin
-    else if bytes_eq word (codes "commit") then Some Commit
-    else if bytes_eq word (codes "rollback") then Some Rollback
-    else if bytes_eq word (codes "get") then Some Get
-    else if bytes_eq word (codes "insert") then Some Insert
     else if bytes_eq word (codes "go") then Some Go
     else if bytes_eq word (codes "loop") then Some Loop
-    else None
+    else option_map (λ form. Command form) (command_form_in word)
 
 -- `ids LOW HIGH`
 unfoldable pub ids_line : List (List ℕ) → Result (ℕ × ℕ) LineFault
@@ -41,39 +33,11 @@ ids_line words = do
   high ← ok_or (number_in low 4294967295 (word_at found 1)) BadNumber
   Ok (low, high)
 
--- `table e`
+-- `table S ..`, with a storage for each of 1 to 8 columns
 unfoldable pub table_line : List (List ℕ) → Result TableSchema LineFault
-table_line words = do
-  found ← counted 1 words
-  if bytes_eq (word_at found 0) (codes "e") then Ok (record { storages = External ∷ [] }) else Err BadName
-
--- `begin rc`
-unfoldable pub begin_line : List (List ℕ) → Result Command LineFault
-begin_line words = do
-  found ← counted 1 words
-  if bytes_eq (word_at found 0) (codes "rc") then Ok (commands.Begin Rc) else Err BadName
-
--- a command of one word
-unfoldable pub bare_line : Command → List (List ℕ) → Result Command LineFault
-bare_line command words = counted 0 words >>= λ _. Ok command
-
--- `get T K`
-unfoldable pub get_line : List TableSchema → List (List ℕ) → Result Command LineFault
-get_line schemas words = do
-  found ← counted 2 words
-  table ← table_in schemas (word_at found 0)
-  key ← ok_or (key_in (word_at found 1)) BadNumber
-  Ok (commands.Get table key)
-
--- `insert T K V ..`, with a value for each column
-unfoldable pub insert_line : List TableSchema → List (List ℕ) → Result Command LineFault
-insert_line schemas words = do
-  first ← first_of words
-  table ← table_in schemas first.0
-  word ← first_of_all (1 + columns_of schemas table) first.1
-  key ← ok_or (key_in word.0) BadNumber
-  row ← values_in word.1
-  Ok (commands.Insert table key row)
+table_line words =
+    if nat_le 1 (length words) && nat_le (length words) 8
+    then (storages_in words >>= λ storages. Ok (record { storages = storages })) else Err WordCount
 
 -- `go ITEM ..`
 unfoldable pub go_line : ℕ → List (List ℕ) → Result Passage LineFault

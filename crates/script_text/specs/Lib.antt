@@ -1,10 +1,6 @@
-pub mod Lines
-pub mod Numbers
-pub mod Reading
-pub mod Words
-pub mod Values
-pub mod Items
+pub mod Commands
 pub mod Forms
 pub mod Scripts
 pub mod Drafts
 pub mod Faults
+pub mod Laws

@@ -4,17 +4,18 @@ use Rattle.command_set.specs.declared.Command.{Command}
 use Rattle.command_set.specs.declared.Command.TheVariants as commands
 use Rattle.command_set.specs.declared.Script.{Script}
 use Rattle.command_set.specs.declared.Set.{Set}
-use Rattle.script_text.specs.Lines.{lines, content, words}
-use Rattle.script_text.specs.Words.{counted}
-use Rattle.script_text.specs.Items.{passage_turns}
-use Rattle.script_text.specs.Forms.{form_in, ids_line, table_line, begin_line, bare_line, get_line, insert_line, go_line, loop_line}
-use Rattle.script_text.specs.Reading.{◌>>=◌}
-use Rattle.script_text.specs.declared.fault.LineFault.{LineFault}
-use Rattle.script_text.specs.declared.fault.LineFault.TheVariants.{UnknownWord, OutOfPlace, TooMany}
+use Rattle.script_words.specs.Lines.{lines, content, words}
+use Rattle.script_words.specs.Words.{counted}
+use Rattle.script_words.specs.Items.{passage_turns}
+use Rattle.script_words.specs.Reading.{◌>>=◌}
+use Rattle.script_words.specs.declared.fault.LineFault.{LineFault}
+use Rattle.script_words.specs.declared.fault.LineFault.TheVariants.{UnknownWord, OutOfPlace, TooMany}
+use Rattle.script_text.specs.Commands.{command_in}
+use Rattle.script_text.specs.Forms.{form_in, ids_line, table_line, go_line, loop_line}
 use Rattle.script_text.specs.declared.fault.ScriptFault.{ScriptFault}
 use Rattle.script_text.specs.declared.fault.ScriptFault.TheVariants.{BadScript, Memory}
 use Rattle.script_text.specs.declared.forms.Form.{Form}
-use Rattle.script_text.specs.declared.forms.Form.TheVariants.{Ids, Table, Session, Begin, Commit, Rollback, Get, Insert, Go, Loop}
+use Rattle.script_text.specs.declared.forms.Form.TheVariants as forms
 use Rattle.script_text.specs.declared.forms.Part.{Part}
 use Rattle.script_text.specs.declared.forms.Part.TheVariants.{Range, Tables, Sessions, Schedule}
 use Rattle.script_text.specs.declared.forms.Line.{Line}
@@ -41,16 +42,12 @@ is_none_of (x ∷ xs) = false
 
 -- the part that a line of this form belongs to
 abbrev pub part_of : Form → Part
-part_of Ids = Range
-part_of Table = Tables
-part_of Session = Sessions
-part_of Go = Schedule
-part_of Loop = Schedule
-part_of Begin = Sessions
-part_of Commit = Sessions
-part_of Rollback = Sessions
-part_of Get = Sessions
-part_of Insert = Sessions
+part_of forms.Ids = Range
+part_of forms.Table = Tables
+part_of forms.Session = Sessions
+part_of (forms.Command form) = Sessions
+part_of forms.Go = Schedule
+part_of forms.Loop = Schedule
 
 -- the place of a part in a script, from 0
 abbrev pub place_of : Part → ℕ
@@ -61,12 +58,9 @@ place_of Schedule = 3
 
 -- whether there may be a line of this form: a second `ids` line may not, and a command needs a session
 abbrev pub is_free : Read → Form → Bool
-is_free read Ids = not read.has_ids
-is_free read Table = true
-is_free read Session = true
-is_free read Go = true
-is_free read Loop = true
-is_free read command = not (is_none_of read.script.sessions)
+is_free read forms.Ids = not read.has_ids
+is_free read (forms.Command form) = not (is_none_of read.script.sessions)
+is_free read form = true
 
 -- whether a line of this form may stand next: there may be one, and no line of a later part has stood before
 abbrev pub is_placed : Read → Form → Bool
@@ -74,16 +68,12 @@ is_placed read form = nat_le (place_of read.part) (place_of (part_of form)) && i
 
 -- what a line of this form says, by the words after its first
 unfoldable pub line_in : Script → Form → List (List ℕ) → Result Line LineFault
-line_in script Ids words = ids_line words >>= λ range. Ok (line.Ids range.0 range.1)
-line_in script Table words = table_line words >>= λ schema. Ok (line.Table schema)
-line_in script Session words = counted 0 words >>= λ _. Ok line.Session
-line_in script Begin words = begin_line words >>= λ command. Ok (line.Command command)
-line_in script Commit words = bare_line commands.Commit words >>= λ command. Ok (line.Command command)
-line_in script Rollback words = bare_line commands.Rollback words >>= λ command. Ok (line.Command command)
-line_in script Get words = get_line script.schemas words >>= λ command. Ok (line.Command command)
-line_in script Insert words = insert_line script.schemas words >>= λ command. Ok (line.Command command)
-line_in script Go words = go_line (length script.sessions) words >>= λ passage. Ok (line.Passage passage)
-line_in script Loop words = loop_line (length script.sessions) words >>= λ passage. Ok (line.Passage passage)
+line_in script forms.Ids words = ids_line words >>= λ range. Ok (line.Ids range.0 range.1)
+line_in script forms.Table words = table_line words >>= λ schema. Ok (line.Table schema)
+line_in script forms.Session words = counted 0 words >>= λ _. Ok line.Session
+line_in script (forms.Command form) words = command_in script.schemas form words >>= λ command. Ok (line.Command command)
+line_in script forms.Go words = go_line (length script.sessions) words >>= λ passage. Ok (line.Passage passage)
+line_in script forms.Loop words = loop_line (length script.sessions) words >>= λ passage. Ok (line.Passage passage)
 
 -- the sessions with a command at the end of the last one
 abbrev pub with_command : Command → List (List Command) → List (List Command)
@@ -150,7 +140,7 @@ limited script = if is_within script then Ok script else Err TooMany
 
 -- whether a line of this form is an `ids` line
 abbrev pub is_ids : Form → Bool
-is_ids Ids = true
+is_ids forms.Ids = true
 is_ids form = false
 
 -- what was read after a line of this form, which made this script

@@ -1,17 +1,20 @@
-// The script that the lines so far make.
-ghost use Rattle.std.specs.Prelude.{◌≡◌, ◌<◌, ◌≤◌, ◌^◌, length, nat_le, sum_by, OnOk, Some, None, vec_len, if◌then◌else◌};
+//! The script that the lines so far make.
+
+ghost use Rattle.std.specs.Prelude.{◌≡◌, ◌<◌, ◌≤◌, ◌^◌, length, sum_by, OnOk, vec_len};
 ghost use Rattle.script_text.specs.Drafts.{Counts, HasRoom, Leaves, script_of};
-ghost use Rattle.script_text.specs.Items.{passage_turns, turns_of};
-ghost use Rattle.script_text.specs.Lines.{words};
-ghost use Rattle.script_text.specs.Reading.{Gives};
+ghost use Rattle.script_words.specs.Items.{passage_turns, turns_of};
+ghost use Rattle.script_words.specs.Lines.{words};
+ghost use Rattle.script_words.specs.Numbers.{up_to};
+ghost use Rattle.script_words.specs.Reading.{Gives};
 ghost use Rattle.script_text.specs.Scripts.{command_bytes, empty_script, limited, line_in, set_bytes as bytes_set, value_bytes, with_command, with_line};
 
-use crate::fault::{LineFault, Refusal};
+use crate::commands::command;
 use crate::forms::{self, Form, HIGHEST_ID, LOWEST_ID, Line};
-use crate::words::no_words;
 use command_set::{
     Bytes, Command, CommandList, Item, Passage, PassageList, SchemaList, Script, SessionList, Set,
 };
+use script_words::fault::{LineFault, Refusal};
+use script_words::words::no_words;
 use std::alloc::{AllocError, Global};
 use tuple_layout::Schema;
 
@@ -25,7 +28,7 @@ const MOST_BYTES: usize = 67_108_864;
 
 const MOST_TURNS: u64 = 10_000_000;
 
-// The parts of a script, and how many commands, bytes of values and turns are in them.
+/// The parts of a script, and how many commands, bytes of values and turns are in them.
 #[derive(Debug, Drop)]
 pub struct Draft {
     pub low: u32,
@@ -39,7 +42,7 @@ pub struct Draft {
 }
 
 impl Draft {
-    // The script of no lines. It takes no memory.
+    /// The script of no lines. It takes no memory.
     pub fn new(alloc: Global) -> Draft
         ensures script { script_of result ≡ empty_script }
         ensures counts { Counts result }
@@ -56,7 +59,7 @@ impl Draft {
         }
     }
 
-    // The script.
+    /// The script.
     pub fn into_script(self) -> Script
         ensures { result ≡ script_of self }
     {
@@ -69,7 +72,7 @@ impl Draft {
         }
     }
 
-    // What a line of this form says.
+    /// What a line of this form says.
     #[tactic(auto, unfolding(crate::specs::Scripts::line_in))]
     pub fn line(&self, alloc: Global, form: Form, text: &[u8]) -> Result<Line, Refusal>
         requires { Counts self.now }
@@ -87,17 +90,13 @@ impl Draft {
                 no_words(text)?;
                 Ok(Line::Session)
             }
-            Form::Begin => Ok(Line::Command(forms::begin(text)?)),
-            Form::Commit => Ok(Line::Command(forms::commit(text)?)),
-            Form::Rollback => Ok(Line::Command(forms::rollback(text)?)),
-            Form::Get => Ok(Line::Command(forms::get(schemas, text)?)),
-            Form::Insert => Ok(Line::Command(forms::insert(alloc, schemas, text)?)),
+            Form::Command(form) => Ok(Line::Command(command(alloc, schemas, form, text)?)),
             Form::Go => Ok(Line::Passage(forms::go(alloc, sessions, text)?)),
             Form::Loop => Ok(Line::Passage(forms::repeat(alloc, sessions, text)?)),
         }
     }
 
-    // Adds what a line says.
+    /// Adds what a line says.
     pub fn add(&mut self, line: Line) -> Result<(), Refusal>
         requires counts { Counts self.old }
         requires placed { HasRoom (script_of self.old) line }
@@ -116,6 +115,7 @@ impl Draft {
         }
     }
 
+    // Adds a table.
     fn add_table(&mut self, schema: Schema) -> Result<(), Refusal>
         requires { Counts self.old }
         ensures { Leaves self.new result (limited (with_line (script_of self.old) (Line.Table schema))) }
@@ -127,6 +127,7 @@ impl Draft {
         Ok(())
     }
 
+    // Adds a session.
     fn add_session(&mut self) -> Result<(), Refusal>
         requires { Counts self.old }
         ensures { Leaves self.new result (limited (with_line (script_of self.old) Line.Session)) }
@@ -139,6 +140,7 @@ impl Draft {
         Ok(())
     }
 
+    // Adds a command to the last session.
     fn add_command(&mut self, command: Command) -> Result<(), Refusal>
         requires counts { Counts self.old }
         requires session { 0 < vec_len self.old.sessions }
@@ -156,6 +158,7 @@ impl Draft {
         Ok(())
     }
 
+    // Adds a passage of the schedule.
     fn add_passage(&mut self, passage: Passage) -> Result<(), Refusal>
         requires { Counts self.old }
         ensures { Leaves self.new result (limited (with_line (script_of self.old) (Line.Passage passage))) }
@@ -181,7 +184,7 @@ fn push_last(sessions: &mut Vec<CommandList>, command: Command) -> Result<(), Al
 // How many bytes the values of a command have, if they are at most `most`.
 fn bytes_of(command: &Command, most: usize) -> Option<usize>
     requires { most ≤ 67108864 }
-    ensures { result ≡ (if nat_le (command_bytes command.now) most then Some (command_bytes command.now) else None) }
+    ensures { result ≡ up_to most (command_bytes command.now) }
 {
     match command {
         Command::Insert { row, .. } => row_bytes(row.as_slice(), most),
@@ -206,7 +209,7 @@ fn bytes_of(command: &Command, most: usize) -> Option<usize>
 // How many bytes the values of a row have, if they are at most `most`.
 fn row_bytes(row: &[Option<Bytes>], most: usize) -> Option<usize>
     requires { most ≤ 67108864 }
-    ensures { result ≡ (if nat_le (sum_by value_bytes row.now) most then Some (sum_by value_bytes row.now) else None) }
+    ensures { result ≡ up_to most (sum_by value_bytes row.now) }
 {
     let mut room = most;
     for value in row {
@@ -218,7 +221,7 @@ fn row_bytes(row: &[Option<Bytes>], most: usize) -> Option<usize>
 // How many bytes the values have that an update sets, if they are at most `most`.
 fn set_bytes(sets: &[Set], most: usize) -> Option<usize>
     requires { most ≤ 67108864 }
-    ensures { result ≡ (if nat_le (sum_by bytes_set sets.now) most then Some (sum_by bytes_set sets.now) else None) }
+    ensures { result ≡ up_to most (sum_by bytes_set sets.now) }
 {
     let mut room = most;
     for set in sets {
@@ -227,6 +230,7 @@ fn set_bytes(sets: &[Set], most: usize) -> Option<usize>
     Some(most - room)
 }
 
+// How many bytes a value has.
 fn value_len(value: &Option<Bytes>) -> usize
     ensures { result ≡ value_bytes value.now }
 {
@@ -239,7 +243,7 @@ fn value_len(value: &Option<Bytes>) -> usize
 // How many turns a passage counts as, if they are at most `most`.
 fn turns_in(passage: &Passage, most: u64) -> Option<u64>
     requires { most ≤ 10000000 }
-    ensures { result ≡ (if nat_le (passage_turns passage.now) most then Some (passage_turns passage.now) else None) }
+    ensures { result ≡ up_to most (passage_turns passage.now) }
 {
     if passage.count == 0 {
         return Some(0);
@@ -252,7 +256,7 @@ fn turns_in(passage: &Passage, most: u64) -> Option<u64>
 // How many turns items count as, if they are at most `most`.
 fn once_through(items: &[Item], most: u64) -> Option<u64>
     requires { most ≤ 10000000 }
-    ensures { result ≡ (if nat_le (sum_by turns_of items.now) most then Some (sum_by turns_of items.now) else None) }
+    ensures { result ≡ up_to most (sum_by turns_of items.now) }
 {
     let mut room = most;
     for item in items {
@@ -261,6 +265,7 @@ fn once_through(items: &[Item], most: u64) -> Option<u64>
     Some(most - room)
 }
 
+// How many turns an item counts as.
 fn item_turns(item: Item) -> u64
     ensures { result ≡ turns_of item }
 {

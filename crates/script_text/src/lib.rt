@@ -3,22 +3,21 @@
 
 ghost use Rattle.script_text.specs.Scripts.{Tells, script_in};
 
+mod commands;
 mod draft;
 mod fault;
 mod forms;
-mod items;
-mod lines;
-mod numbers;
+pub mod laws;
 mod reader;
 #[cfg(test)]
 mod tests;
-mod values;
-mod words;
 
 pub use command_set::Script;
-pub use fault::{LineFault, ScriptFault};
-use lines::{content_of, cut_line};
+pub use fault::ScriptFault;
+use fault::fault_at;
 use reader::Reader;
+pub use script_words::fault::LineFault;
+use script_words::lines::{content_of, cut_line};
 use std::alloc::Global;
 
 /// The script that the bytes spell.
@@ -34,7 +33,7 @@ pub fn parse_script(alloc: Global, bytes: &[u8]) -> Result<Script, ScriptFault>
         let (text, others) = cut_line(rest);
         match reader.add_words(alloc, content_of(text)) {
             Ok(()) => {}
-            Err(refusal) => return Err(refusal.at_line(line)),
+            Err(refusal) => return Err(fault_at(line, refusal)),
         }
         line = line.saturating_add(1);
         rest = others;

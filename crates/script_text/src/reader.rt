@@ -1,18 +1,19 @@
-// What was read so far, line by line.
+//! What was read so far, line by line.
+
 ghost use Rattle.std.specs.Prelude.{◌≡◌};
 ghost use Rattle.script_text.specs.Drafts.{Counts, Reads, read_of, script_of};
-ghost use Rattle.script_text.specs.Lines.{words};
+ghost use Rattle.script_words.specs.Lines.{words};
 ghost use Rattle.script_text.specs.Scripts.{is_free, is_placed, nothing_read, with_form, with_words};
 
 use crate::draft::Draft;
-use crate::fault::{LineFault, Refusal};
 use crate::forms::{self, Form, Part};
-use crate::lines::next_word;
 use command_set::Script;
+use script_words::fault::{LineFault, Refusal};
+use script_words::lines::next_word;
 use std::alloc::Global;
 
-// The script of the lines so far, the part of the last of them, and whether one was an `ids` line: a second one
-// is refused also where the first gave the range that a script without one has.
+/// The script of the lines so far, the part of the last of them, and whether one was an `ids` line: a second one
+/// is refused also where the first gave the range that a script without one has.
 #[derive(Debug, Drop)]
 pub struct Reader {
     pub draft: Draft,
@@ -21,7 +22,7 @@ pub struct Reader {
 }
 
 impl Reader {
-    // Before the first line. It takes no memory.
+    /// Before the first line. It takes no memory.
     pub fn new(alloc: Global) -> Reader
         ensures read { read_of result ≡ nothing_read }
         ensures counts { Counts result.draft }
@@ -33,14 +34,14 @@ impl Reader {
         }
     }
 
-    // The script.
+    /// The script.
     pub fn into_script(self) -> Script
         ensures { result ≡ script_of self.draft }
     {
         self.draft.into_script()
     }
 
-    // Reads a line of these words, where there are words. After an error the reader is of no more use.
+    /// Reads a line of these words, where there are words. After an error the reader is of no more use.
     #[tactic(auto, unfolding(crate::specs::Scripts::with_words))]
     pub fn add_words(&mut self, alloc: Global, text: &[u8]) -> Result<(), Refusal>
         requires { Counts self.old.draft }
@@ -83,10 +84,8 @@ impl Reader {
     {
         match form {
             Form::Ids => !self.has_ids,
+            Form::Command(_) => !self.draft.sessions.is_empty(),
             Form::Table | Form::Session | Form::Go | Form::Loop => true,
-            Form::Begin | Form::Commit | Form::Rollback | Form::Get | Form::Insert => {
-                !self.draft.sessions.is_empty()
-            }
         }
     }
 }

@@ -10,9 +10,8 @@ use Rattle.command_set.specs.declared.journal.Told.{Told}
 use Rattle.command_set.specs.declared.Script.{Script}
 use Rattle.command_set.specs.declared.Command.{Command}
 use Rattle.command_set.specs.Journals.{has_ended, is_complete, is_under_way, run_of, told_of, untold}
-use Rattle.toast_core.specs.declared.parts.Job.TheVariants as jobs
-use Rattle.toast_core.specs.State.{seat_of}
-use Rattle.toast_core.specs.Stands.{is_past_moment}
+use Rattle.core_state.specs.declared.seat.Job.TheVariants as jobs
+use Rattle.core_state.specs.State.{seat_of, is_past_moment}
 use Rattle.session_shell.specs.declared.hub.Progress.{Progress}
 use Rattle.session_shell.specs.Hubs.{HubState, IsHub, commands_of}
 use Rattle.session_shell.specs.Turns.{TurnMade, Place, at_start, place_of, place_after, after_turn, after_turns, Ran, places_in}

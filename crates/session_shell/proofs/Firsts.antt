@@ -17,18 +17,17 @@ use Rattle.command_set.specs.declared.JournalEntry.{JournalEntry}
 use Rattle.command_set.specs.declared.Kind.{Kind}
 use Rattle.command_set.specs.declared.Kind.TheVariants as kinds
 use Rattle.command_set.specs.declared.Command.{Command}
-use Rattle.command_set.specs.declared.Command.TheVariants as commands
 use Rattle.command_set.specs.declared.Reply.{Reply}
 use Rattle.command_set.specs.declared.Reply.TheVariants as replies
 use Rattle.command_set.specs.Answers.{answer, with_failure}
 use Rattle.command_set.specs.Replies.{is_granted}
-use Rattle.command_set.specs.Journals.{command_at, told_of, told_more, after_entry, run_of, is_legal, is_data, is_under_way, may_come_first, may_follow}
-use Rattle.toast_core.specs.declared.parts.Job.{Job}
-use Rattle.toast_core.specs.declared.parts.Job.TheVariants as jobs
-use Rattle.toast_core.specs.declared.parts.Seat.{Seat}
-use Rattle.toast_core.specs.State.{CoreState, seat_of, nobody, pending_of}
-use Rattle.toast_core.specs.Sound.{IsBuilt}
-use Rattle.toast_core.specs.Stands.{Stands, OthersStay, is_past_moment}
+use Rattle.command_set.specs.Journals.{command_at, told_of, told_more, after_entry, run_of, is_legal, is_under_way, may_come_first, may_follow}
+use Rattle.core_state.specs.declared.seat.Job.{Job}
+use Rattle.core_state.specs.declared.seat.Job.TheVariants as jobs
+use Rattle.core_state.specs.declared.seat.Seat.{Seat}
+use Rattle.core_state.specs.Moves.{OthersStay}
+use Rattle.core_state.specs.Stands.{pending_of, Stands}
+use Rattle.core_state.specs.State.{CoreState, seat_of, nobody, is_past_moment}
 use Rattle.session_shell.specs.declared.hub.KeptLine.{KeptLine}
 use Rattle.session_shell.specs.declared.hub.Progress.{Progress}
 use Rattle.session_shell.specs.Hubs.{Keeps, SessionIs, IsBusy, IsBusyBy, IsLine, IsLastEntry, replies_of, commands_of, progress_of, kept_of}
@@ -40,11 +39,11 @@ use Rattle.session_shell.proofs.Frames.{told_here, told_there, seat_there, progr
 use Rattle.session_shell.proofs.Kept.{kept_by, said_idle, said_before, kept_going, refit, push_both, same_count}
 
 -- what a command has under way that goes on
-pub busy_past : (script : Script) (s : ℕ) (told : Told) (job : Job) → is_past_moment job ≡ true → IsBusy script s told → IsBusyBy script s told job
+pub busy_past : (script : Script) (s : ℕ) (told : Told) (job : Job) → is_past_moment job ≡ true → IsBusy script s told job → IsBusyBy script s told job
 busy_past script s told jobs.Idle past busy = tt
 busy_past script s told (jobs.Submitted command) past busy = absurd (cc)
-busy_past script s told (jobs.Reading job) past busy = busy
-busy_past script s told (jobs.Writing job) past busy = busy
+busy_past script s told (jobs.Reading table snapshot read) past busy = busy
+busy_past script s told (jobs.Writing table write) past busy = busy
 
 pub busy_idle : (script : Script) (s : ℕ) (told : Told) (job : Job) → job ≡ jobs.Idle → IsBusyBy script s told job
 busy_idle script s told job idle = subst (IsBusyBy script s told) (sym idle) tt
@@ -202,33 +201,17 @@ keeps_first script core core' journal kept ps run s n kind command reply said pl
 pub stands_forget : (core : CoreState) (m : Plain) (replies : List (Option Reply)) (s : ℕ) (reply : Option Reply) → (seat_of core s).job ≡ jobs.Idle → Stands core m replies → Stands core m (slice_set replies (s - 1) reply)
 stands_forget core m replies s reply idle h = record {
   latest = h.latest;
+  count = h.count;
   sessions = h.sessions;
   upkeep = h.upkeep;
   pending = λ i seat said there pending. elim (cases_eq i (s - 1)) [
     | inl same ↦
         let is : seat_of core s ≡ seat = get_or_from_slice_get core.seats (s - 1) seat nobody (ap (slice_get core.seats) (sym same) ∙ there) in
-        let none : None ≡ Some said = ap (pending_of core.pieces) (sym idle ∙ ap (λ (x : Seat). x.job) is) ∙ pending in
+        let none : None ≡ Some said = ap (pending_of core.tables) (sym idle ∙ ap (λ (x : Seat). x.job) is) ∙ pending in
         absurd (cc)
     | inr other ↦ get_set_other replies (s - 1) i reply other ∙ h.pending i seat said there pending
   ];
 }
-
-one_step_no : (command : Command) → IsBuilt command → is_data command ≡ true → is_one_step command ≡ false
-one_step_no (commands.Begin level) built rows = absurd (cc)
-one_step_no commands.Commit built rows = absurd (cc)
-one_step_no commands.Rollback built rows = absurd (cc)
-one_step_no (commands.Get table key) built rows = refl
-one_step_no (commands.Insert table key row) built rows = refl
-one_step_no (commands.Part table key column offset len) built rows = absurd built
-one_step_no (commands.Open handle table key column) built rows = absurd built
-one_step_no (commands.Fetch handle offset len) built rows = absurd built
-one_step_no (commands.Close handle) built rows = absurd built
-one_step_no (commands.Update table key sets) built rows = absurd built
-one_step_no (commands.Delete table key) built rows = absurd built
-one_step_no (commands.Rekey table from to sets) built rows = absurd built
-one_step_no (commands.VacuumMain table) built rows = absurd built
-one_step_no (commands.VacuumToast table) built rows = absurd built
-one_step_no (commands.Rewrite table) built rows = absurd built
 
 -- what a first step leaves, its entry and its line recorded
 pub record FirstKept (script : Script) (core' : CoreState) (journal : List JournalEntry) (kept : List KeptLine) (ps : List Progress) (run : Run) (s n : ℕ) (command : Command) (kind : Kind) (goes_on : Bool) (kept_reply : Option Reply) : Type 0 where
@@ -251,26 +234,26 @@ pub first_by : (kind : Kind) (goes_on : Bool) (kept_reply : Option Reply) (scrip
     FirstKept script core' journal kept ps run s n command kind goes_on kept_reply
 first_by kinds.Run true kept_reply script core core' journal kept ps run s n command steps h is one within idle next there others =
     let e : JournalEntry = record { session = s; number = n; kind = kinds.Run } in
-    let built = h.rules.built s n command there in
+    let fits = h.rules.fits s n command there in
     let step = subst (λ (schemas : List TableSchema). Stands core' (answer schemas run.plain s command).after (slice_set (replies_of run) (s - 1) (Some (answer schemas run.plain s command).reply)) × SaysFirst true command (seat_of core' s).job kept_reply (answer schemas run.plain s command).reply) h.schemas (steps run.plain (replies_of run) (omega (arith, length-map run.told (λ (t : Told). t.reply), h.told)) h.stands) in
     let said = (answer script.schemas run.plain s command).reply in
     let line : Line = record { session = s; number = n; reply = said } in
-    let busy : IsBusy script s (record { begun = n; last = Some kinds.Run; reply = Some said }) = record { begun = omega (arith, next); last = refl; reply = said; answered = refl; granted = step.1.1; command = command; there = there; for_rows = step.1.0 } in
+    let busy : IsBusy script s (record { begun = n; last = Some kinds.Run; reply = Some said }) (seat_of core' s).job = record { begun = omega (arith, next); last = refl; reply = said; answered = refl; granted = step.1.granted; command = command; there = there; for_rows = step.1.for_rows; values = step.1.values } in
     let legal = legal_push script journal e h.legal (subst (λ (r : Run). may_follow script r e ≡ true) is (may_first script run s n kinds.Run command next (h.each s one within).quiet there refl)) in
     record {
       reply = Some said;
       told = ap (λ (r : Run). r.told) (run_moment script run s n command there);
       keeps = subst (Keeps script core' (journal ++ e ∷ []) (kept ++ (record { session = s; number = n; reply = kept_reply }) ∷ []) (slice_set ps (s - 1) (record { begun = n; entry = length journal; line = length kept }))) (sym (run_moment script run s n command there))
           (keeps_first script core core' journal kept ps run s n kinds.Run command (Some said) said (answer script.schemas run.plain s command).after kept_reply h one within idle next there legal step.0 others (λ _. refl)
-          (not_started script.schemas run.plain s command built)
-          (busy_past script s _ (seat_of core' s).job step.1.2 busy)
-          (step.1.3 ∙ sym (kept_going script n (seat_of core' s).job line command refl step.1.2 there)));
-      past = step.1.2;
-      more = λ _. (refl, step.1.1, one_step_no command built step.1.0);
+          (not_started script.schemas run.plain s command fits)
+          (busy_past script s _ (seat_of core' s).job step.1.past busy)
+          (step.1.said ∙ sym (kept_going script n (seat_of core' s).job line command refl step.1.past there)));
+      past = step.1.past;
+      more = λ _. (refl, step.1.granted, step.1.steps);
     }
 first_by kinds.Run false kept_reply script core core' journal kept ps run s n command steps h is one within idle next there others =
     let e : JournalEntry = record { session = s; number = n; kind = kinds.Run } in
-    let built = h.rules.built s n command there in
+    let fits = h.rules.fits s n command there in
     let step = subst (λ (schemas : List TableSchema). Stands core' (answer schemas run.plain s command).after (slice_set (replies_of run) (s - 1) (Some (answer schemas run.plain s command).reply)) × SaysFirst false command (seat_of core' s).job kept_reply (answer schemas run.plain s command).reply) h.schemas (steps run.plain (replies_of run) (omega (arith, length-map run.told (λ (t : Told). t.reply), h.told)) h.stands) in
     let said = (answer script.schemas run.plain s command).reply in
     let line : Line = record { session = s; number = n; reply = said } in
@@ -280,7 +263,7 @@ first_by kinds.Run false kept_reply script core core' journal kept ps run s n co
       told = ap (λ (r : Run). r.told) (run_moment script run s n command there);
       keeps = subst (Keeps script core' (journal ++ e ∷ []) (kept ++ (record { session = s; number = n; reply = kept_reply }) ∷ []) (slice_set ps (s - 1) (record { begun = n; entry = length journal; line = length kept }))) (sym (run_moment script run s n command there))
           (keeps_first script core core' journal kept ps run s n kinds.Run command (Some said) said (answer script.schemas run.plain s command).after kept_reply h one within idle next there legal step.0 others (λ _. refl)
-          (not_started script.schemas run.plain s command built)
+          (not_started script.schemas run.plain s command fits)
           (busy_idle script s _ (seat_of core' s).job step.1.1)
           (step.1.0 ∙ sym (ap (λ (l : KeptLine). l.reply) (said_idle script n (seat_of core' s).job line step.1.1))));
       past = past_idle (seat_of core' s).job step.1.1;

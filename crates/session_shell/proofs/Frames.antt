@@ -14,11 +14,14 @@ use Rattle.command_set.specs.declared.Command.{Command}
 use Rattle.command_set.specs.declared.Kind.{Kind}
 use Rattle.command_set.specs.declared.Kind.TheVariants as kinds
 use Rattle.command_set.specs.Journals.{untold}
-use Rattle.toast_core.specs.declared.parts.Seat.{Seat}
-use Rattle.toast_core.specs.State.{CoreState, seat_of, nobody}
-use Rattle.toast_core.specs.Stands.{OthersStay, is_past_moment}
+use Rattle.core_state.specs.declared.seat.Seat.{Seat}
+use Rattle.core_state.specs.Moves.{OthersStay}
+use Rattle.core_state.specs.State.{CoreState, seat_of, nobody, is_past_moment}
 use Rattle.session_shell.specs.declared.hub.Progress.{Progress}
+use Rattle.session_shell.specs.declared.steps.Cut.{Cut}
+use Rattle.session_shell.specs.declared.steps.Cut.TheVariants as cuts
 use Rattle.session_shell.specs.Hubs.{progress_of, at_start, most_entries, most_entries_by}
+use Rattle.session_shell.specs.Steps.{kind_of}
 use Rattle.session_shell.specs.Turns.{Place, places_by}
 
 -- two lists with the same at each place are one
@@ -102,6 +105,10 @@ least_by begun kinds.End = omega arith
 least_by begun kinds.NoValueId = omega arith
 least_by begun kinds.Memory = omega arith
 
+most_short : (begun : ℕ) (cut : Cut) → most_entries_by begun (Some (kind_of cut)) ≡ 2 * begun
+most_short begun cuts.NoValueId = refl
+most_short begun cuts.Memory = refl
+
 -- a first entry is one of those that the next command may have
 pub one_first : (tolds : List Told) (s n : ℕ) (told : Told) (kind : Kind) → 1 ≤ s → s ≤ length tolds → n ≡ (unwrap_or (nth tolds s) untold).begun + 1 → told.begun ≡ n → told.last ≡ Some kind → sum_by most_entries tolds + 1 ≤ sum_by most_entries (slice_set tolds (s - 1) told)
 one_first tolds s n told kind one within next begun last =
@@ -113,13 +120,13 @@ one_first tolds s n told kind one within next begun last =
     omega (arith, set, old, same, new, next, begun)
 
 -- a second entry is one of those that the command may have
-pub one_second : (tolds : List Told) (s : ℕ) (told : Told) → 1 ≤ s → s ≤ length tolds → told.begun ≡ (unwrap_or (nth tolds s) untold).begun → 1 ≤ told.begun → (unwrap_or (nth tolds s) untold).last ≡ Some kinds.Run → told.last ≡ Some kinds.Memory → sum_by most_entries tolds + 1 ≤ sum_by most_entries (slice_set tolds (s - 1) told)
-one_second tolds s told one within begun positive was last =
+pub one_second : (tolds : List Told) (s : ℕ) (told : Told) (cut : Cut) → 1 ≤ s → s ≤ length tolds → told.begun ≡ (unwrap_or (nth tolds s) untold).begun → 1 ≤ told.begun → (unwrap_or (nth tolds s) untold).last ≡ Some kinds.Run → told.last ≡ Some (kind_of cut) → sum_by most_entries tolds + 1 ≤ sum_by most_entries (slice_set tolds (s - 1) told)
+one_second tolds s told cut one within begun positive was last =
     let set = sum_by-set most_entries tolds (s - 1) told untold (omega arith) in
     let here : get_or tolds (s - 1) untold ≡ unwrap_or (nth tolds s) untold = told_at tolds s one in
     let old : most_entries (get_or tolds (s - 1) untold) ≡ 2 * told.begun - 1 =
     ap most_entries here ∙ ap (λ (k : Option Kind). most_entries_by (unwrap_or (nth tolds s) untold).begun k) was ∙ ap (λ (b : ℕ). 2 * b - 1) (sym begun) in
-    let new : most_entries told ≡ 2 * told.begun = ap (λ (k : Option Kind). most_entries_by told.begun k) last in
+    let new : most_entries told ≡ 2 * told.begun = ap (λ (k : Option Kind). most_entries_by told.begun k) last ∙ most_short told.begun cut in
     omega (arith, set, old, new, positive)
 
 -- sessions have at most two entries for each of their commands

@@ -7,9 +7,9 @@ use Rattle.command_set.specs.declared.journal.Line.{Line}
 use Rattle.command_set.specs.declared.Script.{Script}
 use Rattle.command_set.specs.declared.Command.{Command}
 use Rattle.command_set.specs.Journals.{command_at}
-use Rattle.toast_core.specs.declared.parts.Job.{Job}
-use Rattle.toast_core.specs.declared.parts.Job.TheVariants as jobs
-use Rattle.toast_core.specs.Stands.{is_past_moment}
+use Rattle.core_state.specs.declared.seat.Job.{Job}
+use Rattle.core_state.specs.declared.seat.Job.TheVariants as jobs
+use Rattle.core_state.specs.State.{is_past_moment}
 use Rattle.session_shell.specs.declared.hub.KeptLine.{KeptLine}
 use Rattle.session_shell.specs.Hubs.{is_read}
 use Rattle.session_shell.proofs.Runs.{and_none}

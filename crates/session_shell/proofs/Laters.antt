@@ -1,6 +1,6 @@
 -- The later steps of a command.
 use Rattle.std.proofs.Common.{◌≡◌, ◌≢◌, ◌<◌, ◌≤◌, ◌-◌, ◌*◌, inl, inr, ℕ, Bool, true, false, List, [], ◌∷◌, ◌++◌, Option, Some, None, length, get_or, slice_get, slice_set, refl, sym, ap, ◌∙◌, subst, arith, length-append, length-set, eq-eqb, append-nil}
-use Rattle.std.specs.Prelude.{◌==◌, ◌&&◌, ◌||◌, slice_index_or, if◌then◌else◌}
+use Rattle.std.specs.Prelude.{◌==◌, ◌&&◌, slice_index_or, if◌then◌else◌}
 use Rattle.std.specs.Option.{option_map, unwrap_or}
 use Rattle.std.proofs.lemmas.Bool.{cases_eq}
 use Rattle.std.proofs.lemmas.Bool.Decides.{nat_tests}
@@ -13,38 +13,68 @@ use Rattle.command_set.specs.declared.journal.Run.{Run}
 use Rattle.command_set.specs.declared.journal.Told.{Told}
 use Rattle.command_set.specs.declared.Script.{Script}
 use Rattle.command_set.specs.declared.JournalEntry.{JournalEntry}
+use Rattle.command_set.specs.declared.Kind.{Kind}
 use Rattle.command_set.specs.declared.Kind.TheVariants as kinds
 use Rattle.command_set.specs.declared.Reply.{Reply}
-use Rattle.command_set.specs.declared.Reply.TheVariants as replies
 use Rattle.command_set.specs.Answers.{with_failure}
-use Rattle.command_set.specs.Replies.{is_granted}
-use Rattle.command_set.specs.Journals.{told_of, told_more, untold, corrected, with_reply, run_of, is_data, is_run, is_started, may_follow}
-use Rattle.toast_core.specs.declared.parts.Job.{Job}
-use Rattle.toast_core.specs.declared.parts.Job.TheVariants as jobs
-use Rattle.toast_core.specs.declared.parts.Seat.{Seat}
-use Rattle.toast_core.specs.State.{CoreState, seat_of}
-use Rattle.toast_core.specs.Stands.{Stands, Falls, OthersStay, is_past_moment}
+use Rattle.command_set.specs.Journals.{told_of, told_more, untold, corrected, with_reply, run_of, is_run, is_started, may_follow}
+use Rattle.core_state.specs.declared.seat.Job.{Job}
+use Rattle.core_state.specs.declared.seat.Job.TheVariants as jobs
+use Rattle.core_state.specs.declared.seat.Seat.{Seat}
+use Rattle.core_state.specs.Moves.{Falls, OthersStay}
+use Rattle.core_state.specs.Stands.{Stands}
+use Rattle.core_state.specs.State.{CoreState, seat_of, is_past_moment}
 use Rattle.session_shell.specs.declared.hub.KeptLine.{KeptLine}
 use Rattle.session_shell.specs.declared.hub.Progress.{Progress}
 use Rattle.session_shell.specs.declared.hub.Turn.{Turn}
 use Rattle.session_shell.specs.declared.hub.Turn.TheVariants as turns
-use Rattle.session_shell.specs.Hubs.{HubState, IsHub, Keeps, SessionIs, IsBusy, IsBusyBy, IsLine, IsLastEntry, replies_of, progress_of, at_start, kept_of}
+use Rattle.session_shell.specs.Hubs.{HubState, IsHub, Keeps, SessionIs, IsBusy, IsBusyBy, IsLine, IsLastEntry, is_saving, replies_of, progress_of, at_start, kept_of}
 use Rattle.session_shell.specs.Lines.{no_line, with_reply as replied}
-use Rattle.session_shell.specs.Steps.{StaysFor, EndsWith}
+use Rattle.session_shell.specs.Steps.{StaysFor, EndsWith, GoesOnLater, IsGranted, MayEnd, kind_of, said_of}
+use Rattle.session_shell.specs.declared.steps.Cut.{Cut}
+use Rattle.session_shell.specs.declared.steps.Cut.TheVariants as cuts
 use Rattle.session_shell.specs.Turns.{TurnMade, Nothing, Ended, end_of, place_after, IsTurn, MakesTurn, Ran, turn_made}
 use Rattle.script_text.specs.Scripts.{command_count}
-use Rattle.session_shell.proofs.Runs.{and_intro, legal_push, may_second, run_push, run_want_later}
+use Rattle.session_shell.proofs.Runs.{and_intro, legal_push, may_second, may_short, run_push, run_short, short_no_run}
 use Rattle.session_shell.proofs.Frames.{told_here, told_there, seat_there, progress_here, progress_there, one_second}
 use Rattle.session_shell.proofs.Kept.{KeptAs, kept_by, said_idle, said_before, refit}
 use Rattle.session_shell.proofs.Firsts.{busy_past, busy_idle, session_at, entry_stays, stands_forget}
 use Rattle.session_shell.proofs.Made.{fits, named_last, ran_one, told_get}
 
 -- a command that has passed its moment
-pub busy_of : (script : Script) (s : ℕ) (told : Told) (job : Job) → is_past_moment job ≡ true → IsBusyBy script s told job → IsBusy script s told
+pub busy_of : (script : Script) (s : ℕ) (told : Told) (job : Job) → is_past_moment job ≡ true → IsBusyBy script s told job → IsBusy script s told job
 busy_of script s told jobs.Idle past busy = absurd (cc)
 busy_of script s told (jobs.Submitted command) past busy = absurd (cc)
-busy_of script s told (jobs.Reading job) past busy = busy
-busy_of script s told (jobs.Writing job) past busy = busy
+busy_of script s told (jobs.Reading table snapshot read) past busy = busy
+busy_of script s told (jobs.Writing table write) past busy = busy
+
+-- the same with another job
+busy_with : (script : Script) (s : ℕ) (told : Told) (job job' : Job) → (is_saving job' ≡ true → is_saving job ≡ true) → IsBusy script s told job → IsBusy script s told job'
+busy_with script s told job job' before busy = record {
+  begun = busy.begun;
+  last = busy.last;
+  reply = busy.reply;
+  answered = busy.answered;
+  granted = busy.granted;
+  command = busy.command;
+  there = busy.there;
+  for_rows = busy.for_rows;
+  values = λ saves. busy.values (before saves);
+}
+
+-- the core stands for a state in which the command under way was granted
+pub granted_of : (hub : HubState) (ps : List Progress) (s : ℕ) → IsHub hub ps → 1 ≤ s → s ≤ length hub.script.sessions → is_past_moment (seat_of hub.core s).job ≡ true → IsGranted hub.core s
+granted_of hub ps s h one within past =
+    let run = run_of hub.script hub.journal in
+    let busy = busy_of hub.script s (told_of run s) (seat_of hub.core s).job past (h.each s one within).busy in
+    record {
+      state = run.plain;
+      replies = replies_of run;
+      stands = h.stands;
+      reply = busy.reply;
+      answered = slice_get-map (λ (t : Told). t.reply) run.told (s - 1) ∙ ap (option_map (λ (t : Told). t.reply)) (told_get run.told s one (omega (arith, h.told, within))) ∙ ap Some busy.answered;
+      granted = busy.granted;
+    }
 
 -- a session whose job alone has changed
 with_job : (script : Script) (journal : List JournalEntry) (lines : List Line) (s : ℕ) (told : Told) (job job' : Job) (place : Progress) → IsBusyBy script s told job' → SessionIs script journal lines s told job place → SessionIs script journal lines s told job' place
@@ -91,13 +121,13 @@ past_same script begun job job' line past past' = simp (past, past')
 
 -- a command goes on
 pub keeps_more : (script : Script) (core core' : CoreState) (journal : List JournalEntry) (kept : List KeptLine) (ps : List Progress) (run : Run) (s : ℕ) →
-    Keeps script core journal kept ps run → 1 ≤ s → s ≤ length script.sessions → is_past_moment (seat_of core s).job ≡ true → StaysFor core core' → OthersStay core s core' → is_past_moment (seat_of core' s).job ≡ true →
+    Keeps script core journal kept ps run → 1 ≤ s → s ≤ length script.sessions → is_past_moment (seat_of core s).job ≡ true → GoesOnLater core s core' → OthersStay core s core' →
     Keeps script core' journal kept ps run
-keeps_more script core core' journal kept ps run s h one within past stays others past' =
-    keeps_job script core core' journal kept kept ps run s h one within stays others
-    (busy_past script s (told_of run s) (seat_of core' s).job past' (busy_of script s (told_of run s) (seat_of core s).job past (h.each s one within).busy))
+keeps_more script core core' journal kept ps run s h one within past goes others =
+    keeps_job script core core' journal kept kept ps run s h one within goes.stays others
+    (busy_past script s (told_of run s) (seat_of core' s).job goes.past (busy_with script s (told_of run s) (seat_of core s).job (seat_of core' s).job goes.values (busy_of script s (told_of run s) (seat_of core s).job past (h.each s one within).busy)))
     (refit kept (kept_of script run core) (kept_of script run core') run.lines h.lines (λ k line e. elim (cases_eq line.session s) [
-      | inl same ↦ past_same script (told_of run line.session).begun (seat_of core line.session).job (seat_of core' line.session).job line (ap (λ (t : ℕ). is_past_moment (seat_of core t).job) same ∙ past) (ap (λ (t : ℕ). is_past_moment (seat_of core' t).job) same ∙ past')
+      | inl same ↦ past_same script (told_of run line.session).begun (seat_of core line.session).job (seat_of core' line.session).job line (ap (λ (t : ℕ). is_past_moment (seat_of core t).job) same ∙ past) (ap (λ (t : ℕ). is_past_moment (seat_of core' t).job) same ∙ goes.past)
       | inr other ↦ view_there script run core core' s line one (h.from_one k line e) other others
     ]))
 
@@ -130,7 +160,7 @@ pub record OwnLine (script : Script) (core : CoreState) (kept : List KeptLine) (
 kept_within : (kept : List KeptLine) (view : Line → KeptLine) (lines : List Line) (at : ℕ) (line : Line) → KeptAs kept view lines → slice_get lines at ≡ Some line → slice_get kept at ≡ Some (view line)
 kept_within kept view lines at line seen there = seen at ∙ ap (option_map view) there
 
-pub own_line : (script : Script) (core : CoreState) (journal : List JournalEntry) (kept : List KeptLine) (ps : List Progress) (run : Run) (s at : ℕ) → Keeps script core journal kept ps run → 1 ≤ s → s ≤ length script.sessions → IsBusy script s (told_of run s) → (progress_of ps s).line ≡ at → OwnLine script core kept run s at
+pub own_line : (script : Script) (core : CoreState) (journal : List JournalEntry) (kept : List KeptLine) (ps : List Progress) (run : Run) (s at : ℕ) → Keeps script core journal kept ps run → 1 ≤ s → s ≤ length script.sessions → IsBusy script s (told_of run s) (seat_of core s).job → (progress_of ps s).line ≡ at → OwnLine script core kept run s at
 own_line script core journal kept ps run s at h one within busy is =
     let line = subst (λ (k : ℕ). IsLine run.lines k s (told_of run s)) is ((h.each s one within).line busy.begun) in
     let l : Line = record { session = s; number = (told_of run s).begun; reply = line.reply } in
@@ -173,10 +203,6 @@ keeps_done script core core' journal kept ps run s at reply h one within own sta
       | inl same ↦ over_line script core core' kept run run s at k l own refl idle there other same
       | inr apart ↦ view_there script run core core' s l one (h.from_one k l there) apart others
     ]))
-
-or_true : (a b : Bool) → b ≡ true → (a || b) ≡ true
-or_true true b e = refl
-or_true false b e = e
 
 -- a line once an entry of the session has corrected it
 corrected_by : (b : Bool) (line : Line) (reply : Reply) → (if b then record line { reply = reply } else line).session ≡ line.session
@@ -234,27 +260,31 @@ session_corrected script journal lines e reply t told job place other h = record
   entry = λ one. entry_stays journal e place.entry t told.begun other (h.entry one);
 }
 
+never_run : (cut : Cut) → kind_of cut ≡ kinds.Run → ⊥
+never_run cuts.NoValueId e = cc
+never_run cuts.Memory e = cc
+
 -- the session itself
-session_wants : (script : Script) (core : CoreState) (journal : List JournalEntry) (kept : List KeptLine) (run : Run) (s at : ℕ) (job : Job) (place : Progress) →
+session_short : (script : Script) (core : CoreState) (journal : List JournalEntry) (kept : List KeptLine) (run : Run) (s at : ℕ) (cut : Cut) (job : Job) (place : Progress) →
     SessionIs script journal run.lines s (told_of run s) job place → (own : OwnLine script core kept run s at) (job' : Job) → job' ≡ jobs.Idle →
-    SessionIs script (journal ++ (record { session = s; number = (told_of run s).begun; kind = kinds.Memory }) ∷ []) (with_reply run.lines (record { session = s; number = (told_of run s).begun; kind = kinds.Memory }) replies.Memory) s (record { begun = (told_of run s).begun; last = Some kinds.Memory; reply = Some own.line.reply }) job' (record { begun = (told_of run s).begun; entry = length journal; line = at })
-session_wants script core journal kept run s at job place h own job' idle =
-    let e : JournalEntry = record { session = s; number = (told_of run s).begun; kind = kinds.Memory } in
+    SessionIs script (journal ++ (record { session = s; number = (told_of run s).begun; kind = kind_of cut }) ∷ []) (with_reply run.lines (record { session = s; number = (told_of run s).begun; kind = kind_of cut }) (said_of cut)) s (record { begun = (told_of run s).begun; last = Some (kind_of cut); reply = Some own.line.reply }) job' (record { begun = (told_of run s).begun; entry = length journal; line = at })
+session_short script core journal kept run s at cut job place h own job' idle =
+    let e : JournalEntry = record { session = s; number = (told_of run s).begun; kind = kind_of cut } in
     record {
       begun = refl;
       within = h.within;
-      busy = busy_idle script s (record { begun = (told_of run s).begun; last = Some kinds.Memory; reply = Some own.line.reply }) job' idle;
-      quiet = refl;
-      below = λ k l there session. let w = was e replies.Memory run.lines k l there in omega (arith, w.number, h.below k w.line w.there (sym w.session ∙ session));
+      busy = busy_idle script s (record { begun = (told_of run s).begun; last = Some (kind_of cut); reply = Some own.line.reply }) job' idle;
+      quiet = ap (λ (b : Bool). b && is_started own.line.reply) (short_no_run cut);
+      below = λ k l there session. let w = was e (said_of cut) run.lines k l there in omega (arith, w.number, h.below k w.line w.there (sym w.session ∙ session));
       line = λ one. record {
-        reply = replies.Memory;
-        there = slice_get-map (corrected e replies.Memory) run.lines at ∙ ap (option_map (corrected e replies.Memory)) own.there
-            ∙ ap Some (corrected_own e replies.Memory own.line own.session own.number ∙ ap (λ (x : ℕ). record { session = x; number = own.line.number; reply = replies.Memory }) own.session ∙ ap (λ (x : ℕ). record { session = s; number = x; reply = replies.Memory }) own.number);
-        answered = λ run. absurd (cc);
-        only = λ k l there session number. let w = was e replies.Memory run.lines k l there in own.only k w.line w.there (sym w.session ∙ session) (sym w.number ∙ number);
+        reply = said_of cut;
+        there = slice_get-map (corrected e (said_of cut)) run.lines at ∙ ap (option_map (corrected e (said_of cut))) own.there
+            ∙ ap Some (corrected_own e (said_of cut) own.line own.session own.number ∙ ap (λ (x : ℕ). record { session = x; number = own.line.number; reply = said_of cut }) own.session ∙ ap (λ (x : ℕ). record { session = s; number = x; reply = said_of cut }) own.number);
+        answered = λ run. absurd (never_run cut (same_Some (kind_of cut) kinds.Run run));
+        only = λ k l there session number. let w = was e (said_of cut) run.lines k l there in own.only k w.line w.there (sym w.session ∙ session) (sym w.number ∙ number);
       };
       entry = λ one. record {
-        kind = kinds.Memory;
+        kind = kind_of cut;
         there = get_push_at journal e;
         last = λ k x there session. omega (arith, slice_get_within _ k x there, length-append journal (e ∷ []));
       };
@@ -264,21 +294,21 @@ map_twice : (view : Line → KeptLine) (f : Line → Line) (o : Option Line) →
 map_twice view f None = refl
 map_twice view f (Some line) = refl
 
--- want of memory ends a command
-pub keeps_want : (script : Script) (core core' : CoreState) (journal : List JournalEntry) (kept : List KeptLine) (ps : List Progress) (run : Run) (s at : ℕ) →
-    Keeps script core journal kept ps run → run ≡ run_of script journal → 1 ≤ s → s ≤ length script.sessions → IsBusy script s (told_of run s) → (own : OwnLine script core kept run s at) → Falls core s core' → OthersStay core s core' →
-    Keeps script core' (journal ++ (record { session = s; number = (told_of run s).begun; kind = kinds.Memory }) ∷ []) (slice_set kept at (replied (slice_index_or kept at no_line) (Some replies.Memory))) (slice_set ps (s - 1) (record { begun = (told_of run s).begun; entry = length journal; line = at }))
-    (told_more run (record { session = s; number = (told_of run s).begun; kind = kinds.Memory }) (Some own.line.reply) (with_failure run.plain s) (with_reply run.lines (record { session = s; number = (told_of run s).begun; kind = kinds.Memory }) replies.Memory))
-keeps_want script core core' journal kept ps run s at h is one within busy own falls others =
-    let e : JournalEntry = record { session = s; number = (told_of run s).begun; kind = kinds.Memory } in
-    let told : Told = record { begun = (told_of run s).begun; last = Some kinds.Memory; reply = Some own.line.reply } in
-    let run' : Run = told_more run e (Some own.line.reply) (with_failure run.plain s) (with_reply run.lines e replies.Memory) in
+-- a command ends early
+pub keeps_short : (script : Script) (core core' : CoreState) (journal : List JournalEntry) (kept : List KeptLine) (ps : List Progress) (run : Run) (s at : ℕ) (cut : Cut) →
+    Keeps script core journal kept ps run → run ≡ run_of script journal → 1 ≤ s → s ≤ length script.sessions → IsBusy script s (told_of run s) (seat_of core s).job → (own : OwnLine script core kept run s at) → Falls core s core' → MayEnd cut (seat_of core s).job → OthersStay core s core' →
+    Keeps script core' (journal ++ (record { session = s; number = (told_of run s).begun; kind = kind_of cut }) ∷ []) (slice_set kept at (replied (slice_index_or kept at no_line) (Some (said_of cut)))) (slice_set ps (s - 1) (record { begun = (told_of run s).begun; entry = length journal; line = at }))
+    (told_more run (record { session = s; number = (told_of run s).begun; kind = kind_of cut }) (Some own.line.reply) (with_failure run.plain s) (with_reply run.lines (record { session = s; number = (told_of run s).begun; kind = kind_of cut }) (said_of cut)))
+keeps_short script core core' journal kept ps run s at cut h is one within busy own falls ends others =
+    let e : JournalEntry = record { session = s; number = (told_of run s).begun; kind = kind_of cut } in
+    let told : Told = record { begun = (told_of run s).begun; last = Some (kind_of cut); reply = Some own.line.reply } in
+    let run' : Run = told_more run e (Some own.line.reply) (with_failure run.plain s) (with_reply run.lines e (said_of cut)) in
     let told_within : s ≤ length run.told = omega (arith, h.told) in
     let here : told_of run' s ≡ told = told_here run.told s told one told_within in
     let begun : (told_of run' s).begun ≡ (told_of run s).begun = ap (λ (t : Told). t.begun) here in
-    let view' = λ (line : Line). kept_of script run' core' (corrected e replies.Memory line) in
+    let view' = λ (line : Line). kept_of script run' core' (corrected e (said_of cut) line) in
     let stays = stands_forget core' (with_failure run.plain s) (replies_of run) s (Some own.line.reply) falls.over (falls.stands run.plain (replies_of run) h.stands) in
-    let may = or_true (is_started busy.reply) (is_granted busy.reply && is_data busy.command) (and_intro (is_granted busy.reply) (is_data busy.command) busy.granted busy.for_rows) in
+    let may = may_short cut busy.command busy.reply (seat_of core s).job ends busy.granted busy.for_rows busy.values in
     record {
       rules = h.rules;
       schemas = others.schemas ∙ h.schemas;
@@ -286,40 +316,40 @@ keeps_want script core core' journal kept ps run s at h is one within busy own f
       told = length-set run.told (s - 1) told ∙ h.told;
       places = length-set ps (s - 1) _ ∙ h.places;
       stands = subst (Stands core' (with_failure run.plain s)) (sym (map-set (λ (t : Told). t.reply) run.told (s - 1) told)) stays;
-      legal = legal_push script journal e h.legal (subst (λ (r : Run). may_follow script r e ≡ true) is (may_second script run s (told_of run s).begun kinds.Memory busy.command busy.reply refl busy.last busy.answered busy.there may));
+      legal = legal_push script journal e h.legal (subst (λ (r : Run). may_follow script r e ≡ true) is (may_second script run s (told_of run s).begun (kind_of cut) busy.command busy.reply refl busy.last busy.answered busy.there may));
       lines = λ k.
-          set_both kept (kept_of script run core) view' run.lines at own.line (replied (slice_index_or kept at no_line) (Some replies.Memory)) h.lines own.there own.within
-          (own.replied replies.Memory
-          ∙ sym (ap (kept_of script run' core') (corrected_own e replies.Memory own.line own.session own.number)
-          ∙ said_idle script (told_of run' own.line.session).begun (seat_of core' own.line.session).job (record own.line { reply = replies.Memory }) (ap (λ (t : ℕ). (seat_of core' t).job) own.session ∙ falls.over)))
+          set_both kept (kept_of script run core) view' run.lines at own.line (replied (slice_index_or kept at no_line) (Some (said_of cut))) h.lines own.there own.within
+          (own.replied (said_of cut)
+          ∙ sym (ap (kept_of script run' core') (corrected_own e (said_of cut) own.line own.session own.number)
+          ∙ said_idle script (told_of run' own.line.session).begun (seat_of core' own.line.session).job (record own.line { reply = said_of cut }) (ap (λ (t : ℕ). (seat_of core' t).job) own.session ∙ falls.over)))
           (λ i l there other. elim (cases_eq l.session s) [
             | inl same ↦
                 over_line script core core' kept run run' s at i l own begun falls.over there other same
-                ∙ sym (ap (kept_of script run' core') (corrected_other e replies.Memory l (λ session number. other (own.only i l there same number))))
+                ∙ sym (ap (kept_of script run' core') (corrected_other e (said_of cut) l (λ session number. other (own.only i l there same number))))
             | inr apart ↦
                 view_there script run core core' s l one (h.from_one i l there) apart others
                 ∙ ap (λ (t : Told). kept_by script t.begun (seat_of core' l.session).job l) (sym (told_there run.told s l.session told one (h.from_one i l there) apart))
-                ∙ sym (ap (kept_of script run' core') (corrected_other e replies.Memory l (λ session number. apart session)))
+                ∙ sym (ap (kept_of script run' core') (corrected_other e (said_of cut) l (λ session number. apart session)))
           ]) k
-          ∙ sym (map_twice (kept_of script run' core') (corrected e replies.Memory) (slice_get run.lines k))
-          ∙ sym (ap (option_map (kept_of script run' core')) (slice_get-map (corrected e replies.Memory) run.lines k));
-      from_one = λ k l there. let w = was e replies.Memory run.lines k l there in subst (λ (x : ℕ). 1 ≤ x) (sym w.session) (h.from_one k w.line w.there);
+          ∙ sym (map_twice (kept_of script run' core') (corrected e (said_of cut)) (slice_get run.lines k))
+          ∙ sym (ap (option_map (kept_of script run' core')) (slice_get-map (corrected e (said_of cut)) run.lines k));
+      from_one = λ k l there. let w = was e (said_of cut) run.lines k l there in subst (λ (x : ℕ). 1 ≤ x) (sym w.session) (h.from_one k w.line w.there);
       each = λ t one' within'. elim (cases_eq t s) [
-        | inl same ↦ subst (λ (x : ℕ). SessionIs script (journal ++ e ∷ []) (with_reply run.lines e replies.Memory) x (told_of run' x) (seat_of core' x).job (progress_of (slice_set ps (s - 1) (record { begun = (told_of run s).begun; entry = length journal; line = at })) x)) (sym same)
+        | inl same ↦ subst (λ (x : ℕ). SessionIs script (journal ++ e ∷ []) (with_reply run.lines e (said_of cut)) x (told_of run' x) (seat_of core' x).job (progress_of (slice_set ps (s - 1) (record { begun = (told_of run s).begun; entry = length journal; line = at })) x)) (sym same)
             (session_at script _ _ s told (told_of run' s) (seat_of core' s).job (seat_of core' s).job (record { begun = (told_of run s).begun; entry = length journal; line = at }) _ here refl
             (progress_here ps s _ one (omega (arith, h.places)))
-            (session_wants script core journal kept run s at (seat_of core s).job (progress_of ps s) (h.each s one within) own (seat_of core' s).job falls.over))
+            (session_short script core journal kept run s at cut (seat_of core s).job (progress_of ps s) (h.each s one within) own (seat_of core' s).job falls.over))
         | inr other ↦
             session_at script _ _ t (told_of run t) (told_of run' t) (seat_of core t).job (seat_of core' t).job (progress_of ps t) _
             (told_there run.told s t told one one' other)
             (ap (λ (seat : Seat). seat.job) (seat_there core core' s t one one' other others))
             (progress_there ps s t _ one one' other)
-            (session_corrected script journal run.lines e replies.Memory t _ _ _ (λ x. other (sym x)) (h.each t one' within'))
+            (session_corrected script journal run.lines e (said_of cut) t _ _ _ (λ x. other (sym x)) (h.each t one' within'))
       ];
       entries =
-          let more = one_second run.told s told one told_within refl busy.begun busy.last refl in
+          let more = one_second run.told s told cut one told_within refl busy.begun busy.last refl in
           omega (arith, h.entries, more, length-append journal (e ∷ []));
-      fewer = omega (arith, h.fewer, length-append journal (e ∷ []), length-map run.lines (corrected e replies.Memory));
+      fewer = omega (arith, h.fewer, length-append journal (e ∷ []), length-map run.lines (corrected e (said_of cut)));
     }
 
 -- a hub with another core and other kept lines
@@ -356,33 +386,33 @@ made_done old core kept ps s at h one within past others idle is =
       named = subst (λ (k : ℕ). IsLastEntry old.journal k s (told_of (run_of old.script old.journal) s).begun) is ((h.each s one within).entry busy.begun);
     }
 
--- a hub whose session has wanted memory
-abbrev pub wanted : HubState → CoreState → ℕ → ℕ → HubState
-wanted old core s at = record {
+-- a hub one of whose commands has ended early
+abbrev pub shortened : HubState → CoreState → ℕ → Cut → ℕ → HubState
+shortened old core s cut at = record {
   script = old.script;
   core = core;
-  journal = old.journal ++ (record { session = s; number = (told_of (run_of old.script old.journal) s).begun; kind = kinds.Memory }) ∷ [];
-  kept = slice_set old.kept at (replied (slice_index_or old.kept at no_line) (Some replies.Memory));
+  journal = old.journal ++ (record { session = s; number = (told_of (run_of old.script old.journal) s).begun; kind = kind_of cut }) ∷ [];
+  kept = slice_set old.kept at (replied (slice_index_or old.kept at no_line) (Some (said_of cut)));
 }
 
--- the hub once want of memory has ended a command
-pub record HubWants (old : HubState) (core : CoreState) (ps : List Progress) (s at : ℕ) : Type 0 where
-  pub keeps : IsHub (wanted old core s at) (slice_set ps (s - 1) (record { begun = (told_of (run_of old.script old.journal) s).begun; entry = length old.journal; line = at }))
-  pub made : MakesTurn old s (wanted old core s at) (turns.Ended (length old.journal))
+-- the hub once a command has ended early
+pub record HubShort (old : HubState) (core : CoreState) (ps : List Progress) (s : ℕ) (cut : Cut) (at : ℕ) : Type 0 where
+  pub keeps : IsHub (shortened old core s cut at) (slice_set ps (s - 1) (record { begun = (told_of (run_of old.script old.journal) s).begun; entry = length old.journal; line = at }))
+  pub made : MakesTurn old s (shortened old core s cut at) (turns.Ended (length old.journal))
 
-pub hub_wants : (old : HubState) (core : CoreState) (ps : List Progress) (s at : ℕ) → IsHub old ps → 1 ≤ s → s ≤ length old.script.sessions → is_past_moment (seat_of old.core s).job ≡ true → (progress_of ps s).line ≡ at → Falls old.core s core → OthersStay old.core s core → HubWants old core ps s at
-hub_wants old core ps s at h one within past is falls others =
+pub hub_short : (old : HubState) (core : CoreState) (ps : List Progress) (s : ℕ) (cut : Cut) (at : ℕ) → IsHub old ps → 1 ≤ s → s ≤ length old.script.sessions → is_past_moment (seat_of old.core s).job ≡ true → (progress_of ps s).line ≡ at → Falls old.core s core → MayEnd cut (seat_of old.core s).job → OthersStay old.core s core → HubShort old core ps s cut at
+hub_short old core ps s cut at h one within past is falls ends others =
     let run = run_of old.script old.journal in
     let b = (told_of run s).begun in
-    let e : JournalEntry = record { session = s; number = b; kind = kinds.Memory } in
+    let e : JournalEntry = record { session = s; number = b; kind = kind_of cut } in
     let busy = busy_of old.script s (told_of run s) (seat_of old.core s).job past (h.each s one within).busy in
     let own = own_line old.script old.core old.journal old.kept ps run s at h one within busy is in
-    let told : Told = record { begun = b; last = Some kinds.Memory; reply = Some own.line.reply } in
-    let want = run_want_later old.script run s b busy.command own.line.reply h.stands.upkeep (eq-eqb b b refl) own.reply busy.there busy.for_rows in
-    let after = run_push old.script old.journal e ∙ want in
-    let new = wanted old core s at in
+    let told : Told = record { begun = b; last = Some (kind_of cut); reply = Some own.line.reply } in
+    let short = run_short old.script run s b cut busy.command own.line.reply h.stands.upkeep (eq-eqb b b refl) own.reply busy.there busy.for_rows in
+    let after = run_push old.script old.journal e ∙ short in
+    let new = shortened old core s cut at in
     let ps' = slice_set ps (s - 1) (record { begun = b; entry = length old.journal; line = at }) in
-    let keeps : IsHub new ps' = subst (Keeps old.script core new.journal new.kept ps') (sym after) (keeps_want old.script old.core core old.journal old.kept ps run s at h refl one within busy own falls others) in
+    let keeps : IsHub new ps' = subst (Keeps old.script core new.journal new.kept ps') (sym after) (keeps_short old.script old.core core old.journal old.kept ps run s at cut h refl one within busy own falls ends others) in
     let told_is : (run_of new.script new.journal).told ≡ slice_set run.told (s - 1) told = ap (λ (r : Run). r.told) after in
     let here : (told_of (run_of new.script new.journal) s).begun ≡ b = ap (λ (ts : List Told). (unwrap_or (nth ts s) untold).begun) told_is ∙ ap (λ (t : Told). t.begun) (told_here run.told s told one (omega (arith, h.told))) in
     let t : TurnMade = turn_made s (Some e) (turns.Ended (length old.journal)) in
@@ -393,7 +423,7 @@ hub_wants old core ps s at h one within past is falls others =
         ran = ran_one old new ps s t told h one within refl refl refl
             (subst (λ (u : Bool). IsTurn old.script run (record { begun = b; under_way = u }) t) (sym past) (record {
               made = λ no. cc;
-              entry = λ x is. let same : e ≡ x = same_Some e x is in (ap (λ (y : JournalEntry). y.session) (sym same), ap (λ (y : JournalEntry). y.number) (sym same), ap (λ (y : JournalEntry). is_run y.kind) (sym same), refl);
+              entry = λ x is. let same : e ≡ x = same_Some e x is in (ap (λ (y : JournalEntry). y.session) (sym same), ap (λ (y : JournalEntry). y.number) (sym same), ap (λ (y : JournalEntry). is_run y.kind) (sym same) ∙ short_no_run cut, refl);
             }))
             told_is others
             (ap (λ (j : Job). record { begun = b; under_way = is_past_moment j }) falls.over ∙ sym (ap (λ (u : Bool). place_after (record { begun = b; under_way = u }) Ended) past));
@@ -402,10 +432,10 @@ hub_wants old core ps s at h one within past is falls others =
     }
 
 -- there is room for a second entry
-pub later_room : (old : HubState) (core : CoreState) (ps : List Progress) (s at : ℕ) → HubWants old core ps s at → length old.journal < 2 * command_count old.script
-later_room old core ps s at b =
-    let room = fits (wanted old core s at) _ b.keeps in
-    omega (arith, room.journal_fits, length-append old.journal ((record { session = s; number = (told_of (run_of old.script old.journal) s).begun; kind = kinds.Memory }) ∷ []))
+pub later_room : (old : HubState) (core : CoreState) (ps : List Progress) (s : ℕ) (cut : Cut) (at : ℕ) → HubShort old core ps s cut at → length old.journal < 2 * command_count old.script
+later_room old core ps s cut at b =
+    let room = fits (shortened old core s cut at) _ b.keeps in
+    omega (arith, room.journal_fits, length-append old.journal ((record { session = s; number = (told_of (run_of old.script old.journal) s).begun; kind = kind_of cut }) ∷ []))
 
 -- how far a session is, as it was read
 pub progress_is : (hub : HubState) (ps : List Progress) (s : ℕ) (x : Progress) → IsHub hub ps → 1 ≤ s → s ≤ length hub.script.sessions → x ≡ get_or ps (s - 1) x → progress_of ps s ≡ x
@@ -433,29 +463,31 @@ done_is old core ps s x reply kept h one within past is stays others idle ends k
     subst (λ (k : List KeptLine). IsHub (with_core old core k) ps) (sym kept_is)
     (keeps_done old.script old.core core old.journal old.kept ps (run_of old.script old.journal) s x.line reply h one within (line_is old ps s x h one within past is) stays others idle ends)
 
-pub wants_of : (old : HubState) (core : CoreState) (ps : List Progress) (s : ℕ) (x : Progress) → IsHub old ps → 1 ≤ s → s ≤ length old.script.sessions → is_past_moment (seat_of old.core s).job ≡ true → x ≡ get_or ps (s - 1) x → Falls old.core s core → OthersStay old.core s core → HubWants old core ps s x.line
-wants_of old core ps s x h one within past is falls others = hub_wants old core ps s x.line h one within past (ap (λ (p : Progress). p.line) (progress_is old ps s x h one within is)) falls others
+pub short_of : (old : HubState) (core : CoreState) (ps : List Progress) (s : ℕ) (cut : Cut) (x : Progress) → IsHub old ps → 1 ≤ s → s ≤ length old.script.sessions → is_past_moment (seat_of old.core s).job ≡ true → x ≡ get_or ps (s - 1) x → Falls old.core s core → MayEnd cut (seat_of old.core s).job → OthersStay old.core s core → HubShort old core ps s cut x.line
+short_of old core ps s cut x h one within past is falls ends others = hub_short old core ps s cut x.line h one within past (ap (λ (p : Progress). p.line) (progress_is old ps s x h one within is)) falls ends others
 
--- what was recorded of want of memory
-pub record WantsSo (old : HubState) (core : CoreState) (ps : List Progress) (s : ℕ) (journal : List JournalEntry) (kept : List KeptLine) (ps' : List Progress) (entry : ℕ) : Type 0 where
+-- what was recorded of a command that ended early
+pub record ShortSo (old : HubState) (core : CoreState) (ps : List Progress) (s : ℕ) (journal : List JournalEntry) (kept : List KeptLine) (ps' : List Progress) (entry : ℕ) : Type 0 where
   pub keeps : IsHub (hub_of old.script core journal kept) ps'
   pub made : MakesTurn old s (hub_of old.script core journal kept) (turns.Ended entry)
 
-pub wants_so : (old : HubState) (core : CoreState) (ps : List Progress) (s : ℕ) (x : Progress) (journal : List JournalEntry) (kept : List KeptLine) (ps' : List Progress) (entry : ℕ) → IsHub old ps → 1 ≤ s → s ≤ length old.script.sessions → x ≡ get_or ps (s - 1) x → HubWants old core ps s x.line →
-    journal ≡ old.journal ++ (record { session = s; number = x.begun; kind = kinds.Memory }) ∷ [] → kept ≡ slice_set old.kept x.line (replied (slice_index_or old.kept x.line no_line) (Some replies.Memory)) →
-    ps' ≡ slice_set ps (s - 1) (record { begun = x.begun; entry = entry; line = x.line }) → entry ≡ length old.journal → WantsSo old core ps s journal kept ps' entry
-wants_so old core ps s x journal kept ps' entry h one within is b journal_is kept_is ps_is entry_is =
+pub short_so : (old : HubState) (core : CoreState) (ps : List Progress) (s : ℕ) (cut : Cut) (kind : Kind) (said : Reply) (x : Progress) (journal : List JournalEntry) (kept : List KeptLine) (ps' : List Progress) (entry : ℕ) → IsHub old ps → 1 ≤ s → s ≤ length old.script.sessions → x ≡ get_or ps (s - 1) x → HubShort old core ps s cut x.line → kind ≡ kind_of cut → said ≡ said_of cut →
+    journal ≡ old.journal ++ (record { session = s; number = x.begun; kind = kind }) ∷ [] → kept ≡ slice_set old.kept x.line (replied (slice_index_or old.kept x.line no_line) (Some said)) →
+    ps' ≡ slice_set ps (s - 1) (record { begun = x.begun; entry = entry; line = x.line }) → entry ≡ length old.journal → ShortSo old core ps s journal kept ps' entry
+short_so old core ps s cut kind said x journal kept ps' entry h one within is b kind_is said_is journal_is kept_is ps_is entry_is =
     let begun = number_is old ps s x h one within is in
-    let j : journal ≡ (wanted old core s x.line).journal = journal_is ∙ ap (λ (n : ℕ). old.journal ++ (record { session = s; number = n; kind = kinds.Memory }) ∷ []) begun in
+    let j : journal ≡ (shortened old core s cut x.line).journal =
+    journal_is ∙ ap (λ (k : Kind). old.journal ++ (record { session = s; number = x.begun; kind = k }) ∷ []) kind_is ∙ ap (λ (n : ℕ). old.journal ++ (record { session = s; number = n; kind = kind_of cut }) ∷ []) begun in
+    let k : kept ≡ (shortened old core s cut x.line).kept = kept_is ∙ ap (λ (r : Reply). slice_set old.kept x.line (replied (slice_index_or old.kept x.line no_line) (Some r))) said_is in
     let p : ps' ≡ slice_set ps (s - 1) (record { begun = (told_of (run_of old.script old.journal) s).begun; entry = length old.journal; line = x.line }) =
     ps_is ∙ ap (λ (n : ℕ). slice_set ps (s - 1) (record { begun = n; entry = entry; line = x.line })) begun ∙ ap (λ (n : ℕ). slice_set ps (s - 1) (record { begun = (told_of (run_of old.script old.journal) s).begun; entry = n; line = x.line })) entry_is in
     record {
       keeps =
           subst (λ (js : List JournalEntry). IsHub (hub_of old.script core js kept) ps') (sym j)
-          (subst (λ (ks : List KeptLine). IsHub (hub_of old.script core (wanted old core s x.line).journal ks) ps') (sym kept_is)
-          (subst (λ (qs : List Progress). IsHub (wanted old core s x.line) qs) (sym p) b.keeps));
+          (subst (λ (ks : List KeptLine). IsHub (hub_of old.script core (shortened old core s cut x.line).journal ks) ps') (sym k)
+          (subst (λ (qs : List Progress). IsHub (shortened old core s cut x.line) qs) (sym p) b.keeps));
       made =
           subst (λ (js : List JournalEntry). MakesTurn old s (hub_of old.script core js kept) (turns.Ended entry)) (sym j)
-          (subst (λ (ks : List KeptLine). MakesTurn old s (hub_of old.script core (wanted old core s x.line).journal ks) (turns.Ended entry)) (sym kept_is)
-          (subst (λ (n : ℕ). MakesTurn old s (wanted old core s x.line) (turns.Ended n)) (sym entry_is) b.made));
+          (subst (λ (ks : List KeptLine). MakesTurn old s (hub_of old.script core (shortened old core s cut x.line).journal ks) (turns.Ended entry)) (sym k)
+          (subst (λ (n : ℕ). MakesTurn old s (shortened old core s cut x.line) (turns.Ended n)) (sym entry_is) b.made));
     }

@@ -1,4 +1,6 @@
 pub mod Answered
+pub mod Begun
+pub mod Stepped
 pub mod Cores
 pub mod Runs
 pub mod Frames

@@ -3,7 +3,7 @@ use Rattle.std.proofs.Common.{◌≡◌, ◌<◌, ◌≤◌, ◌+◌, ◌-◌, �
 use Rattle.std.specs.Prelude.{if◌then◌else◌}
 use Rattle.std.specs.Option.{unwrap_or}
 use Rattle.std.specs.List.{sum_by}
-use Rattle.std.proofs.lemmas.Option.{slice_get-get_or, unwrap_or-slice_get}
+use Rattle.std.proofs.lemmas.Option.{slice_get-get_or}
 use Rattle.std.proofs.lemmas.List.{get_or_read}
 use Rattle.std.proofs.lemmas.List.Sums.{sum_by-cons}
 use Rattle.list_facts.proofs.Changed.{set_same}
@@ -20,11 +20,11 @@ use Rattle.command_set.specs.declared.Command.{Command}
 use Rattle.command_set.specs.Answers.{answer}
 use Rattle.command_set.specs.Replies.{is_granted}
 use Rattle.command_set.specs.Journals.{command_at, told_of, untold, run_of}
-use Rattle.toast_core.specs.declared.parts.Job.{Job}
-use Rattle.toast_core.specs.declared.parts.Job.TheVariants as jobs
-use Rattle.toast_core.specs.declared.parts.Seat.{Seat}
-use Rattle.toast_core.specs.State.{CoreState, seat_of}
-use Rattle.toast_core.specs.Stands.{OthersStay, is_past_moment}
+use Rattle.core_state.specs.declared.seat.Job.{Job}
+use Rattle.core_state.specs.declared.seat.Job.TheVariants as jobs
+use Rattle.core_state.specs.declared.seat.Seat.{Seat}
+use Rattle.core_state.specs.Moves.{OthersStay}
+use Rattle.core_state.specs.State.{CoreState, seat_of, is_past_moment}
 use Rattle.script_text.specs.Scripts.{command_count}
 use Rattle.session_shell.specs.declared.hub.KeptLine.{KeptLine}
 use Rattle.session_shell.specs.declared.hub.Progress.{Progress}

@@ -9,12 +9,13 @@ use Rattle.command_set.specs.declared.Script.{Script}
 use Rattle.command_set.specs.declared.Reply.{Reply}
 use Rattle.command_set.specs.Plain.{first_state}
 use Rattle.command_set.specs.Journals.{first_run, untold, told_of, run_of}
-use Rattle.toast_core.specs.declared.Under.TheVariants as under
-use Rattle.toast_core.specs.declared.parts.Job.{Job}
-use Rattle.toast_core.specs.declared.parts.Job.TheVariants as jobs
-use Rattle.toast_core.specs.declared.parts.Seat.{Seat}
-use Rattle.toast_core.specs.State.{CoreState, seat_of, nobody}
-use Rattle.toast_core.specs.Stands.{Stands, is_past_moment, under_of}
+use Rattle.core_state.specs.declared.advance.Under.TheVariants as under
+use Rattle.core_state.specs.declared.seat.Job.{Job}
+use Rattle.core_state.specs.declared.seat.Job.TheVariants as jobs
+use Rattle.core_state.specs.declared.seat.Seat.{Seat}
+use Rattle.core_state.specs.Moves.{under_of}
+use Rattle.core_state.specs.Stands.{Stands}
+use Rattle.core_state.specs.State.{CoreState, is_past_moment, nobody, schemas_of, seat_of}
 use Rattle.session_shell.specs.declared.hub.Progress.{Progress}
 use Rattle.command_set.specs.declared.JournalEntry.{JournalEntry}
 use Rattle.session_shell.specs.declared.hub.KeptLine.{KeptLine}
@@ -53,7 +54,7 @@ session_first script s = record {
 }
 
 -- a new hub
-pub keeps_new : (script : Script) (core : CoreState) (ps : List Progress) → IsScript script → core.schemas ≡ script.schemas → core.seats ≡ replicate (length script.sessions) nobody → ps ≡ replicate (length script.sessions) at_start →
+pub keeps_new : (script : Script) (core : CoreState) (ps : List Progress) → IsScript script → schemas_of core.tables ≡ script.schemas → core.seats ≡ replicate (length script.sessions) nobody → ps ≡ replicate (length script.sessions) at_start →
     Stands core (first_state (length script.sessions)) (replicate (length script.sessions) None) → Keeps script core [] [] ps (first_run script)
 keeps_new script core ps rules schemas seats places stands =
     let n = length script.sessions in
@@ -80,24 +81,24 @@ keeps_new script core ps rules schemas seats places stands =
 pub idle_of : (job : Job) → under_of job ≡ under.Nothing → job ≡ jobs.Idle
 idle_of jobs.Idle e = refl
 idle_of (jobs.Submitted command) e = absurd (cc)
-idle_of (jobs.Reading job) e = absurd (cc)
-idle_of (jobs.Writing job) e = absurd (cc)
+idle_of (jobs.Reading table snapshot read) e = absurd (cc)
+idle_of (jobs.Writing table write) e = absurd (cc)
 
 -- something is under way, and has passed its moment
 pub past_of : (script : Script) (s : ℕ) (told : Told) (job : Job) → (under_of job ≡ under.Nothing → ⊥) → IsBusyBy script s told job → is_past_moment job ≡ true
 past_of script s told jobs.Idle other busy = absurd (other refl)
 past_of script s told (jobs.Submitted command) other busy = absurd busy
-past_of script s told (jobs.Reading job) other busy = refl
-past_of script s told (jobs.Writing job) other busy = refl
+past_of script s told (jobs.Reading table snapshot read) other busy = refl
+past_of script s told (jobs.Writing table write) other busy = refl
 
 pub idle_not_past : (job : Job) → under_of job ≡ under.Nothing → is_past_moment job ≡ true → ⊥
 idle_not_past jobs.Idle e past = cc
 idle_not_past (jobs.Submitted command) e past = cc
-idle_not_past (jobs.Reading job) e past = cc
-idle_not_past (jobs.Writing job) e past = cc
+idle_not_past (jobs.Reading table snapshot read) e past = cc
+idle_not_past (jobs.Writing table write) e past = cc
 
 -- a new hub, as it was made
-pub new_is : (script : Script) (core : CoreState) (journal : List JournalEntry) (kept : List KeptLine) (ps : List Progress) (n count : ℕ) → IsScript script → journal ≡ [] → kept ≡ [] → n ≡ length script.sessions → count ≡ length script.sessions → core.schemas ≡ script.schemas → core.seats ≡ replicate n nobody → ps ≡ replicate count at_start →
+pub new_is : (script : Script) (core : CoreState) (journal : List JournalEntry) (kept : List KeptLine) (ps : List Progress) (n count : ℕ) → IsScript script → journal ≡ [] → kept ≡ [] → n ≡ length script.sessions → count ≡ length script.sessions → schemas_of core.tables ≡ script.schemas → core.seats ≡ replicate n nobody → ps ≡ replicate count at_start →
     Stands core (first_state n) (replicate n None) → IsHub (record { script = script; core = core; journal = journal; kept = kept }) ps
 new_is script core journal kept ps n count rules j k n_is count_is schemas seats places stands =
     subst (λ (js : List JournalEntry). IsHub (record { script = script; core = core; journal = js; kept = kept }) ps) (sym j)

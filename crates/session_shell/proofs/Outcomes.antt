@@ -9,7 +9,7 @@ use Rattle.toast_io.specs.ReadAll.{IsWhole}
 use Rattle.toast_io.proofs.Told.{told_whole, told_taken}
 use Rattle.command_set.specs.declared.Script.{Script}
 use Rattle.script_text.specs.Scripts.{script_in}
-use Rattle.script_text.specs.declared.fault.LineFault.{LineFault}
+use Rattle.script_words.specs.declared.fault.LineFault.{LineFault}
 use Rattle.script_text.specs.declared.fault.ScriptFault.{ScriptFault}
 use Rattle.script_text.specs.declared.fault.ScriptFault.TheVariants as scripts
 use Rattle.toast_io.specs.Faults.{HasRisen}

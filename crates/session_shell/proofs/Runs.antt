@@ -13,9 +13,16 @@ use Rattle.command_set.specs.declared.Kind.TheVariants as kinds
 use Rattle.command_set.specs.declared.Command.{Command}
 use Rattle.command_set.specs.declared.Reply.{Reply}
 use Rattle.command_set.specs.declared.Reply.TheVariants as replies
+use Rattle.command_set.specs.declared.state.Answered.{Answered}
 use Rattle.command_set.specs.Answers.{answer, with_failure}
-use Rattle.command_set.specs.Journals.{Moment, moment_at, moment_of, came_of, command_at, told_of, told_more, line_of, with_reply, reply_before, cut_short, without_upkeep, after_moment, after_entry, first_run, run_on, run_of, is_legal, is_run, is_data, is_under_way, may_come, may_come_first, may_come_second, may_follow, may_follow_on}
+use Rattle.command_set.specs.Replies.{is_granted}
+use Rattle.command_set.specs.Journals.{Moment, moment_at, moment_of, came_of, command_at, told_of, told_more, line_of, with_reply, reply_before, cut_short, without_upkeep, after_moment, after_entry, first_run, run_on, run_of, is_legal, is_cut, is_run, is_data, is_rewrite_command, is_started, is_under_way, may_come, may_come_first, may_come_second, may_follow, may_follow_on, writes_values}
 use Rattle.command_set.proofs.Moments.{run_of-push, run_on-cons}
+use Rattle.core_state.specs.declared.seat.Job.{Job}
+use Rattle.session_shell.specs.Hubs.{is_saving}
+use Rattle.session_shell.specs.Steps.{MayEnd, kind_of, said_of}
+use Rattle.session_shell.specs.declared.steps.Cut.{Cut}
+use Rattle.session_shell.specs.declared.steps.Cut.TheVariants as cuts
 
 pub and_intro : (a b : Bool) → a ≡ true → b ≡ true → (a && b) ≡ true
 and_intro true b e h = h
@@ -109,13 +116,42 @@ run_want script run s n command none other there =
     ∙ ap (λ (m : Plain). told_more run e (reply_before run e) m (if is_some (reply_before run e) && is_data command then with_reply run.lines e replies.Memory else run.lines ++ line_of e replies.Memory ∷ [])) (cut_is run.plain s none)
     ∙ ap (λ (o : Option Reply). told_more run e o (with_failure run.plain s) (if is_some o && is_data command then with_reply run.lines e replies.Memory else run.lines ++ line_of e replies.Memory ∷ [])) before
 
--- want of memory after a data command's moment
-pub run_want_later : (script : Script) (run : Run) (s n : ℕ) (command : Command) (reply : Reply) → run.plain.upkeep ≡ [] → ((told_of run s).begun == n) ≡ true → (told_of run s).reply ≡ Some reply → command_at script s n ≡ Some command → is_data command ≡ true →
-    after_entry script run (record { session = s; number = n; kind = kinds.Memory }) ≡ told_more run (record { session = s; number = n; kind = kinds.Memory }) (Some reply) (with_failure run.plain s) (with_reply run.lines (record { session = s; number = n; kind = kinds.Memory }) replies.Memory)
-run_want_later script run s n command reply none same answered there rows =
-    let e : JournalEntry = record { session = s; number = n; kind = kinds.Memory } in
+-- an entry that ends a command early
+pub came_short : (script : Script) (m : Plain) (s : ℕ) (command : Command) (cut : Cut) → came_of script m s command (kind_of cut) ≡ record { reply = said_of cut; after = cut_short m s }
+came_short script m s command cuts.NoValueId = refl
+came_short script m s command cuts.Memory = refl
+
+pub short_is_cut : (cut : Cut) → is_cut (kind_of cut) ≡ true
+short_is_cut cuts.NoValueId = refl
+short_is_cut cuts.Memory = refl
+
+pub short_no_run : (cut : Cut) → is_run (kind_of cut) ≡ false
+short_no_run cuts.NoValueId = refl
+short_no_run cuts.Memory = refl
+
+-- what is told after an entry of this kind, by what came of its command
+abbrev told_by : Run → JournalEntry → Answered → Bool → Bool → Option Reply → Bool → Run
+told_by run e came runs cuts before rows =
+    told_more run e (if runs then Some came.reply else before) came.after (if cuts && (is_some before && rows) then with_reply run.lines e came.reply else run.lines ++ line_of e came.reply ∷ [])
+
+-- a data command ends early after its moment
+pub run_short : (script : Script) (run : Run) (s n : ℕ) (cut : Cut) (command : Command) (reply : Reply) → run.plain.upkeep ≡ [] → ((told_of run s).begun == n) ≡ true → (told_of run s).reply ≡ Some reply → command_at script s n ≡ Some command → is_data command ≡ true →
+    after_entry script run (record { session = s; number = n; kind = kind_of cut }) ≡ told_more run (record { session = s; number = n; kind = kind_of cut }) (Some reply) (with_failure run.plain s) (with_reply run.lines (record { session = s; number = n; kind = kind_of cut }) (said_of cut))
+run_short script run s n cut command reply none same answered there rows =
+    let e : JournalEntry = record { session = s; number = n; kind = kind_of cut } in
     let before : reply_before run e ≡ Some reply = ap (λ (b : Bool). if b then (told_of run s).reply else None) same ∙ answered in
-    told_named script run s n kinds.Memory command there
-    ∙ ap (λ (m : Plain). told_more run e (reply_before run e) m (if is_some (reply_before run e) && is_data command then with_reply run.lines e replies.Memory else run.lines ++ line_of e replies.Memory ∷ [])) (cut_is run.plain s none)
-    ∙ ap (λ (o : Option Reply). told_more run e o (with_failure run.plain s) (if is_some o && is_data command then with_reply run.lines e replies.Memory else run.lines ++ line_of e replies.Memory ∷ [])) before
-    ∙ ap (λ (b : Bool). told_more run e (Some reply) (with_failure run.plain s) (if b then with_reply run.lines e replies.Memory else run.lines ++ line_of e replies.Memory ∷ [])) rows
+    told_named script run s n (kind_of cut) command there
+    ∙ ap (λ (came : Answered). told_by run e came (is_run (kind_of cut)) (is_cut (kind_of cut)) (reply_before run e) (is_data command)) (came_short script run.plain s command cut ∙ ap (λ (m : Plain). record { reply = said_of cut; after = m }) (cut_is run.plain s none))
+    ∙ ap (λ (b : Bool). told_by run e (record { reply = said_of cut; after = with_failure run.plain s }) b (is_cut (kind_of cut)) (reply_before run e) (is_data command)) (short_no_run cut)
+    ∙ ap (λ (b : Bool). told_by run e (record { reply = said_of cut; after = with_failure run.plain s }) false b (reply_before run e) (is_data command)) (short_is_cut cut)
+    ∙ ap (λ (o : Option Reply). told_by run e (record { reply = said_of cut; after = with_failure run.plain s }) false true o (is_data command)) before
+    ∙ ap (λ (b : Bool). told_by run e (record { reply = said_of cut; after = with_failure run.plain s }) false true (Some reply) b) rows
+
+or_true : (a b : Bool) → b ≡ true → (a || b) ≡ true
+or_true true b e = refl
+or_true false b e = e
+
+-- such an entry may come second
+pub may_short : (cut : Cut) (command : Command) (reply : Reply) (job : Job) → MayEnd cut job → is_granted reply ≡ true → is_data command ≡ true → (is_saving job ≡ true → writes_values command ≡ true) → may_come_second command reply (kind_of cut) ≡ true
+may_short cuts.NoValueId command reply job may granted rows values = or_true (is_started reply && is_rewrite_command command) (is_granted reply && writes_values command) (and_intro (is_granted reply) (writes_values command) granted (values may))
+may_short cuts.Memory command reply job may granted rows values = or_true (is_started reply) (is_granted reply && is_data command) (and_intro (is_granted reply) (is_data command) granted rows)

@@ -9,10 +9,9 @@ use Rattle.std.proofs.lemmas.Option.{slice_get_read, same_Some}
 use Rattle.command_set.specs.declared.journal.Line.{Line}
 use Rattle.command_set.specs.declared.Script.{Script}
 use Rattle.command_set.specs.Journals.{command_at, run_of, told_of}
-use Rattle.toast_core.specs.declared.parts.Job.{Job}
-use Rattle.toast_core.specs.declared.parts.Seat.{Seat}
-use Rattle.toast_core.specs.State.{seat_of, nobody}
-use Rattle.toast_core.specs.Stands.{is_past_moment}
+use Rattle.core_state.specs.declared.seat.Job.{Job}
+use Rattle.core_state.specs.declared.seat.Seat.{Seat}
+use Rattle.core_state.specs.State.{seat_of, nobody, is_past_moment}
 use Rattle.session_shell.specs.declared.hub.KeptLine.{KeptLine}
 use Rattle.session_shell.specs.declared.hub.Progress.{Progress}
 use Rattle.session_shell.specs.Hubs.{HubState, IsHub, is_read, kept_of}

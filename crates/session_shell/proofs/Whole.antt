@@ -1,18 +1,16 @@
 -- A session's turns up to the first after which no command goes on.
-use Rattle.std.proofs.Common.{◌≡◌, ◌≢◌, ◌<◌, ◌≤◌, ◌+◌, ◌-◌, ℕ, zero, suc, Bool, true, false, List, [], ◌∷◌, ◌++◌, Option, Some, length, slice_get, refl, sym, ap, ◌∙◌, subst, arith, get_or-set_same}
+use Rattle.std.proofs.Common.{◌≡◌, ◌≢◌, ◌<◌, ◌≤◌, ◌+◌, ◌-◌, ℕ, zero, suc, Bool, true, false, List, [], ◌∷◌, ◌++◌, Option, Some, length, refl, sym, ap, ◌∙◌, subst, arith, get_or-set_same}
 use Rattle.command_set.specs.declared.journal.Run.{Run}
 use Rattle.command_set.specs.declared.Script.{Script}
-use Rattle.command_set.specs.declared.Item.TheVariants as items
 use Rattle.command_set.specs.declared.JournalEntry.{JournalEntry}
 use Rattle.command_set.specs.Journals.{run_of}
-use Rattle.toast_core.specs.State.{seat_of}
-use Rattle.toast_core.specs.Stands.{is_past_moment}
+use Rattle.core_state.specs.State.{seat_of, is_past_moment}
 use Rattle.command_set.specs.Plain.{nth}
 use Rattle.session_shell.specs.declared.hub.Turn.{Turn}
 use Rattle.session_shell.specs.declared.hub.Turn.TheVariants as turns
 use Rattle.session_shell.specs.Hubs.{HubState, commands_of}
 use Rattle.session_shell.specs.Turns.{TurnMade, Place, End, Nothing, More, Ended, at_start, place_of, place_after, TurnBy, BeginsBy, Ran, MakesTurn, places_in, turn_made, end_of}
-use Rattle.session_shell.specs.Follows.{AllMore, NoneRests, RunsItem, RunsWhole}
+use Rattle.session_shell.specs.Follows.{AllMore, NoneRests}
 use Rattle.session_shell.proofs.Turning.{length-after, ran_on}
 
 -- how many turns a session still takes for its command

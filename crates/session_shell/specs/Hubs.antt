@@ -7,7 +7,7 @@ use Rattle.command_set.specs.Replies.{is_granted}
 use Rattle.command_set.specs.declared.journal.Line.{Line}
 use Rattle.command_set.specs.declared.journal.Run.{Run}
 use Rattle.command_set.specs.declared.journal.Told.{Told}
-use Rattle.command_set.specs.Journals.{run_of, told_of, command_at, is_legal, is_data, is_under_way}
+use Rattle.command_set.specs.Journals.{run_of, told_of, command_at, is_legal, is_data, is_under_way, writes_values}
 use Rattle.command_set.specs.declared.Script.{Script}
 use Rattle.command_set.specs.declared.Item.{Item}
 use Rattle.command_set.specs.declared.Item.TheVariants as items
@@ -19,11 +19,13 @@ use Rattle.command_set.specs.declared.Kind.{Kind}
 use Rattle.command_set.specs.declared.Kind.TheVariants as kinds
 use Rattle.command_set.specs.declared.Reply.{Reply}
 use Rattle.script_text.specs.Scripts.{command_count}
-use Rattle.toast_core.specs.declared.parts.Job.{Job}
-use Rattle.toast_core.specs.declared.parts.Job.TheVariants as jobs
-use Rattle.toast_core.specs.State.{CoreState, seat_of}
-use Rattle.toast_core.specs.Sound.{AreBuilt, IsBuilt}
-use Rattle.toast_core.specs.Stands.{Stands, is_past_moment}
+use Rattle.write_steps.specs.declared.stage.WriteStage.{WriteStage}
+use Rattle.write_steps.specs.declared.stage.WriteStage.TheVariants as stages
+use Rattle.core_state.specs.Commands.{IsFitting}
+use Rattle.core_state.specs.Stands.{Stands}
+use Rattle.core_state.specs.State.{CoreState, is_past_moment, schemas_of, seat_of}
+use Rattle.core_state.specs.declared.seat.Job.{Job}
+use Rattle.core_state.specs.declared.seat.Job.TheVariants as jobs
 use Rattle.session_shell.specs.declared.hub.KeptLine.{KeptLine}
 use Rattle.session_shell.specs.declared.hub.Progress.{Progress}
 
@@ -50,10 +52,9 @@ pub record IsScript (script : Script) : Type 0 where
   pub low : 16384 ≤ script.low
   pub high : script.low ≤ script.high
   pub tables : length script.schemas ≤ 16
-  pub columns : AreBuilt script.schemas
   pub sessions : length script.sessions ≤ 64
   pub commands : command_count script ≤ 10000
-  pub built : (s n : ℕ) (command : Command) → command_at script s n ≡ Some command → IsBuilt command
+  pub fits : (s n : ℕ) (command : Command) → command_at script s n ≡ Some command → IsFitting script.schemas command
   pub items : (i j : ℕ) (passage : Passage) (item : Item) → slice_get script.schedule i ≡ Some passage → slice_get passage.items j ≡ Some item → IsSessionOf script (session_in item)
 
 -- the commands of a session, from 1
@@ -66,6 +67,16 @@ is_read (commands.Get table key) = true
 is_read (commands.Part table key column offset len) = true
 is_read (commands.Fetch handle offset len) = true
 is_read command = false
+
+-- whether a write saves a value
+abbrev pub is_at_save : WriteStage → Bool
+is_at_save (stages.Saving old new plan at save) = true
+is_at_save stage = false
+
+-- whether a job is a write that saves a value, and so may be refused an id
+abbrev pub is_saving : Job → Bool
+is_saving (jobs.Writing table write) = is_at_save write.stage
+is_saving job = false
 
 -- what each session's last moment answered
 abbrev pub replies_of : Run → List (Option Reply)
@@ -92,8 +103,8 @@ at_start = record { begun = 0; entry = 0; line = 0 }
 abbrev pub progress_of : List Progress → ℕ → Progress
 progress_of progress s = slice_index_or progress (s - 1) at_start
 
--- a session's last entry is the granted Run of a command that goes on
-pub record IsBusy (script : Script) (s : ℕ) (told : Told) : Type 0 where
+-- a session's last entry is the granted Run of a command that goes on with this job
+pub record IsBusy (script : Script) (s : ℕ) (told : Told) (job : Job) : Type 0 where
   pub begun : 1 ≤ told.begun
   pub last : told.last ≡ Some kinds.Run
   pub reply : Reply
@@ -102,13 +113,14 @@ pub record IsBusy (script : Script) (s : ℕ) (told : Told) : Type 0 where
   pub command : Command
   pub there : command_at script s told.begun ≡ Some command
   pub for_rows : is_data command ≡ true
+  pub values : is_saving job ≡ true → writes_values command ≡ true
 
 -- a session is busy exactly where the core has a command of it under way, and then the command has passed its moment
 abbrev pub IsBusyBy : Script → ℕ → Told → Job → Type 0
 IsBusyBy script s told jobs.Idle = Unit {0}
 IsBusyBy script s told (jobs.Submitted command) = ⊥
-IsBusyBy script s told (jobs.Reading job) = IsBusy script s told
-IsBusyBy script s told (jobs.Writing job) = IsBusy script s told
+IsBusyBy script s told (jobs.Reading table snapshot read) = IsBusy script s told (jobs.Reading table snapshot read)
+IsBusyBy script s told (jobs.Writing table write) = IsBusy script s told (jobs.Writing table write)
 
 -- at this place stands the only line of a session's last command that has begun
 pub record IsLine (lines : List Line) (at s : ℕ) (told : Told) : Type 0 where
@@ -146,7 +158,7 @@ most_entries told = most_entries_by told.begun told.last
 -- what is true of a hub, where its journal tells this run
 pub record Keeps (script : Script) (core : CoreState) (journal : List JournalEntry) (kept : List KeptLine) (progress : List Progress) (run : Run) : Type 0 where
   pub rules : IsScript script
-  pub schemas : core.schemas ≡ script.schemas
+  pub schemas : schemas_of core.tables ≡ script.schemas
   pub seats : length core.seats ≡ length script.sessions
   pub told : length run.told ≡ length script.sessions
   pub places : length progress ≡ length script.sessions

@@ -12,7 +12,7 @@ use Rattle.command_set.specs.declared.Kind.{Kind}
 use Rattle.command_set.specs.declared.Kind.TheVariants as kinds
 use Rattle.command_set.specs.Journals.{is_complete, is_legal}
 use Rattle.script_text.specs.Scripts.{script_in}
-use Rattle.script_text.specs.declared.fault.LineFault.{LineFault}
+use Rattle.script_words.specs.declared.fault.LineFault.{LineFault}
 use Rattle.script_text.specs.declared.fault.ScriptFault.TheVariants as scripts
 use Rattle.session_shell.specs.Hubs.{HubState}
 use Rattle.session_shell.specs.Follows.{Follows}

@@ -10,8 +10,8 @@ use Rattle.command_set.specs.declared.Command.{Command}
 use Rattle.command_set.specs.declared.Command.TheVariants as commands
 use Rattle.command_set.specs.declared.JournalEntry.{JournalEntry}
 use Rattle.command_set.specs.declared.Kind.TheVariants as kinds
-use Rattle.toast_core.specs.declared.parts.Seat.{Seat}
-use Rattle.toast_core.specs.Stands.{is_past_moment}
+use Rattle.core_state.specs.State.{is_past_moment}
+use Rattle.core_state.specs.declared.seat.Seat.{Seat}
 use Rattle.session_shell.specs.declared.hub.Turn.{Turn}
 use Rattle.session_shell.specs.declared.hub.Turn.TheVariants as turns
 use Rattle.session_shell.specs.Hubs.{HubState, IsLastEntry}

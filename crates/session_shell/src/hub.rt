@@ -3,18 +3,17 @@ ghost use Rattle.std.specs.Prelude.{◌≡◌, ◌+◌, ◌++◌, ◌-◌, ◌*�
 ghost use Rattle.std.specs.Option.{option_copied, option_map};
 ghost use Rattle.command_set.specs.Journals.{command_at, is_complete, is_legal};
 ghost use Rattle.script_text.specs.Scripts.{command_count};
-ghost use Rattle.toast_core.specs.State.{seat_of};
-ghost use Rattle.toast_core.specs.Events.{left};
-ghost use Rattle.toast_core.specs.Stands.{is_past_moment};
+ghost use Rattle.core_state.specs.Events.{left};
+ghost use Rattle.core_state.specs.State.{is_past_moment, seat_of};
 ghost use Rattle.session_shell.specs.Lines.{no_line, with_reply};
 
 use crate::print::text_of;
 use crate::steps::{First, Later, first_step, later_step};
 use command_set::values::nth;
-use command_set::{Command, Item, JournalEntry, Kind, Reply, Script};
+use command_set::{Command, Item, JournalEntry, Reply, Script};
+use core_state::seat::Job;
 use std::alloc::{AllocError, Global};
 use std::marker::Model;
-use toast_core::parts::Job;
 use toast_core::{Core, Setup, Under};
 use toast_io::Bytes;
 use tuple_layout::copy_of_schemas;
@@ -115,7 +114,8 @@ impl Hub {
     /// One turn of a session: its next command is submitted if none is under way, and then one event is
     /// made.
     ///
-    /// Want of memory ends the command, as the journal then tells.
+    /// A draw that finds no value id ends the command, and so does want of memory, as the journal then
+    /// tells.
     pub fn turn(&mut self, session: u16) -> Turn
         requires { IsSessionOf self.old.script session }
         ensures made { MakesTurn self.old session self.new result }
@@ -173,7 +173,7 @@ impl Hub {
                 set_reply(&mut self.kept, line, reply);
                 Turn::Ended { entry }
             }
-            Later::Memory => {
+            Later::Short(cut) => {
                 let entry = self.journal.len() as u32;
                 self.progress[at] = Progress { begun, entry, line };
                 push_entry(
@@ -181,10 +181,10 @@ impl Hub {
                     JournalEntry {
                         session,
                         number: begun,
-                        kind: Kind::Memory,
+                        kind: cut.kind(),
                     },
                 );
-                set_reply(&mut self.kept, line, Reply::Memory);
+                set_reply(&mut self.kept, line, cut.reply());
                 Turn::Ended { entry }
             }
         }

@@ -2,7 +2,7 @@
 ghost use Rattle.std.specs.Prelude.{◌≡◌, ◌≢◌, ◌↔◌, ◌⊎◌, ℕ, List, Err, IfOk, IsErrOf, IsTrue, None, Ok, Some};
 ghost use Rattle.command_set.specs.declared.Script.{Script as AnyScript};
 ghost use Rattle.script_text.specs.Scripts.{script_in};
-ghost use Rattle.script_text.specs.declared.fault.LineFault.{LineFault};
+ghost use Rattle.script_words.specs.declared.fault.LineFault.{LineFault};
 ghost use Rattle.script_text.specs.declared.fault.ScriptFault.TheVariants as scripts;
 ghost use Rattle.toast_io.specs.Faults.{HasRisen, NeverFalls};
 ghost use Rattle.toast_io.specs.Source.{Takes};

@@ -1,15 +1,15 @@
 // The steps of one command, as the hub records them.
 ghost use Rattle.std.specs.Prelude.{◌≡◌, None, OnErr, IfOk, Some, if◌then◌else◌, false, true};
 ghost use Rattle.command_set.specs.Journals.{takes_no_memory};
-ghost use Rattle.toast_core.specs.State.{IsSession, seat_of};
-ghost use Rattle.toast_core.specs.Sound.{IsBuilt};
-ghost use Rattle.toast_core.specs.Stands.{Falls, OthersStay, Runs, is_past_moment};
+ghost use Rattle.core_state.specs.Commands.{IsFitting};
+ghost use Rattle.core_state.specs.Moves.{Falls, OthersStay};
+ghost use Rattle.core_state.specs.State.{IsSession, is_past_moment, schemas_of, seat_of};
 ghost use Rattle.session_shell.specs.Hubs.{is_read};
-ghost use Rattle.session_shell.specs.Steps.{BeginsBy, IsStood, StepsLater};
+ghost use Rattle.session_shell.specs.Steps.{BeginsBy, IsGranted, IsStood, MakesFirst, StepsLater, ended_by, kind_of, said_of};
 
 use command_set::{Command, Kind, Reply};
+use core_state::seat::Job;
 use std::alloc::AllocError;
-use toast_core::parts::Job;
 use toast_core::{Advance, Core};
 
 /// What a command's first step has come to.
@@ -23,19 +23,50 @@ pub struct First {
     pub goes_on: bool,
 }
 
+/// Why a command ends before its last step.
+#[derive(Clone, Copy, Debug, PartialEq, Eq)]
+pub enum Cut {
+    /// A draw found every value id in use.
+    NoValueId,
+    /// There was no memory.
+    Memory,
+}
+
+impl Cut {
+    // The kind of the journal's entry.
+    pub fn kind(self) -> Kind
+        ensures { result ≡ kind_of self }
+    {
+        match self {
+            Cut::NoValueId => Kind::NoValueId,
+            Cut::Memory => Kind::Memory,
+        }
+    }
+
+    // What the command's line then says.
+    pub fn reply(self) -> Reply
+        ensures { result ≡ said_of self }
+    {
+        match self {
+            Cut::NoValueId => Reply::NoValueId,
+            Cut::Memory => Reply::Memory,
+        }
+    }
+}
+
 /// What a later step of a command has come to.
 #[derive(Debug, Drop)]
 pub enum Later {
     More,
     Done(Reply),
-    Memory,
+    Short(Cut),
 }
 
 // Begins a command, and makes its first step.
 pub fn first_step(core: &mut Core, session: u16, command: &Command) -> First
     requires session { IsSession core.old.seats session }
     requires idle { (seat_of core.old session).job ≡ Job.Idle }
-    requires built { IsBuilt command.now }
+    requires fits { IsFitting (schemas_of core.old.tables) command.now }
     requires stood { IsStood core.old session }
     ensures begins { BeginsBy core.old session command.now core.new result }
     ensures apart { OthersStay core.old session core.new }
@@ -64,8 +95,8 @@ pub fn first_step(core: &mut Core, session: u16, command: &Command) -> First
 fn begin(core: &mut Core, session: u16, command: &Command) -> Result<Advance, AllocError>
     requires session { IsSession core.old.seats session }
     requires idle { (seat_of core.old session).job ≡ Job.Idle }
-    requires built { IsBuilt command.now }
-    ensures ok { IfOk result (Runs core.old session command.now core.new) }
+    requires fits { IsFitting (schemas_of core.old.tables) command.now }
+    ensures ok { IfOk result (MakesFirst core.old session command.now core.new) }
     ensures falls { OnErr result (Falls core.old session core.new) }
     ensures wanted { OnErr result (takes_no_memory command.now ≡ false) }
     ensures apart { OthersStay core.old session core.new }
@@ -89,14 +120,24 @@ fn granted_reply(command: &Command) -> Option<Reply>
 pub fn later_step(core: &mut Core, session: u16) -> Later
     requires session { IsSession core.old.seats session }
     requires under_way { is_past_moment (seat_of core.old session).job ≡ true }
-    requires stood { IsStood core.old session }
+    requires granted { IsGranted core.old session }
     ensures steps { StepsLater core.old session core.new result }
     ensures apart { OthersStay core.old session core.new }
 {
     match core.advance(session) {
         Ok(Advance::More) => Later::More,
-        Ok(Advance::Done(reply)) => Later::Done(reply),
+        Ok(Advance::Done(reply)) => ended(reply),
         Ok(Advance::Idle) => unreachable!(),
-        Err(_) => Later::Memory,
+        Err(_) => Later::Short(Cut::Memory),
+    }
+}
+
+// What a later step that ends its command comes to, by what it says.
+fn ended(reply: Reply) -> Later
+    ensures { result ≡ ended_by reply }
+{
+    match reply {
+        Reply::NoValueId => Later::Short(Cut::NoValueId),
+        reply => Later::Done(reply),
     }
 }

@@ -1,6 +1,6 @@
 use super::{Bytes, BytesList, Status, toast_replay};
 use crate::hub::{Hub, Turn};
-use command_set::Reply;
+use command_set::{Kind, Reply};
 use script_text::{ScriptFault, parse_script};
 use std::alloc::{AllocError, Global};
 use std::test::Fail;
@@ -36,6 +36,37 @@ const THREE_BEFORE: &str =
 
 const THREE_BEHIND: &str = "\ns2.4 ok\ns3.3 rolled back\n";
 
+// Scripts of changes, handles and value ids, with what is written.
+const CHANGES: [(&str, &str); 4] = [
+    // rows of two columns, changed, moved and taken away under repeatable read
+    (
+        "table e p\nsession\nbegin rr\ninsert t1 1 x0102 x03\nupdate t1 1 2=x04\nrekey t1 1 -5 1=null\npart t1 -5 1 0 1\npart t1 -5 2 0 -1\ndelete t1 -5\nget t1 -5\ncommit\n",
+        "s1.1 ok\ns1.2 ok\ns1.3 ok\ns1.4 ok\ns1.5 null\ns1.6 bytes x04\ns1.7 ok\ns1.8 none\ns1.9 ok\n",
+    ),
+    // a handle keeps its value of three pieces when the row is gone, and goes with its transaction
+    (
+        "table e\nsession\nbegin rc\ninsert t1 1 c5000.0\nopen h1 t1 1 1\ndelete t1 1\nfetch h1 1995 2\nopen h1 t1 1 1\nclose h1\n",
+        "s1.1 ok\ns1.2 ok\ns1.3 ok\ns1.4 ok\ns1.5 bytes xeeef\ns1.6 handle there\ns1.7 failed\n",
+    ),
+    // the second of two long values finds no id; the first one's pieces keep theirs when it is rolled back
+    (
+        "ids 16384 16384\ntable e e\nsession\nbegin rc\ninsert t1 1 c2500.0 c2500.1\nget t1 1\ncommit\nbegin rc\ninsert t1 1 c2500.2 x02\nrollback\n",
+        "s1.1 ok\ns1.2 no value id\ns1.3 failed\ns1.4 rolled back\ns1.5 ok\ns1.6 no value id\ns1.7 ok\n",
+    ),
+    // an id that another session has in hand is not drawn
+    (
+        "ids 16384 16384\ntable e\nsession\nbegin rc\ninsert t1 1 c2500.1\nrollback\nsession\nbegin rc\ninsert t1 2 c2500.2\ncommit\ngo 1! 1*2 2! 2!\n",
+        "s1.1 ok\ns1.2 ok\ns2.1 ok\ns2.2 no value id\ns1.3 ok\ns2.3 rolled back\n",
+    ),
+];
+
+// One session, which puts a row of two pieces.
+const TWO_PIECES: &str = "table e\nsession\nbegin rc\ninsert t1 1 c2500.0\ncommit\n";
+
+// One session, which puts a row of two long values where there is one id.
+const NO_ID: &str =
+    "ids 16384 16384\ntable e e\nsession\nbegin rc\ninsert t1 1 c1996.0 c1996.1\ncommit\n";
+
 const DIGITS: &[u8; 16] = b"0123456789abcdef";
 
 #[test]
@@ -67,6 +98,17 @@ fn scripts_are_replayed(rt: HostRuntime) -> Result<(), Fail> {
         ("table e\n", ""),
         ("session\ncommit\n", "s1.1 outside\n"),
     ] {
+        let (status, sink) = replayed(alloc, script)?;
+        assert_eq!(rt; status, Status::Done, "{script}");
+        assert_eq!(rt; sink.written(), replies.as_bytes(), "{script}");
+    }
+    Ok(())
+}
+
+#[test]
+fn changes_handles_and_refused_draws_are_replayed(rt: HostRuntime) -> Result<(), Fail> {
+    let alloc = rt.alloc();
+    for (script, replies) in CHANGES {
         let (status, sink) = replayed(alloc, script)?;
         assert_eq!(rt; status, Status::Done, "{script}");
         assert_eq!(rt; sink.written(), replies.as_bytes(), "{script}");
@@ -192,14 +234,18 @@ fn three_replies(alloc: Global) -> Result<Vec<u8>, AllocError> {
 
 #[test]
 fn a_hub_answers_turn_by_turn(rt: HostRuntime) -> Result<(), Fail> {
-    let Ok(mut hub) = one_session(rt.alloc()) else {
+    let Ok(mut hub) = hub_of(rt.alloc(), TWO_PIECES) else {
         return Err(Fail::new("no hub"));
     };
     assert!(rt; hub.reply(0).is_none());
     // Each turn's answer, and the number of entries and of replies after it. The insert has its
-    // moment, which tells its reply, puts two pieces, and then its version.
+    // moment, which tells its reply, the draw, for each of two pieces a put and an entry, and then its
+    // version.
     for (turn, entries, replies) in [
         (Turn::Ended { entry: 0 }, 1, 1),
+        (Turn::More, 2, 2),
+        (Turn::More, 2, 2),
+        (Turn::More, 2, 2),
         (Turn::More, 2, 2),
         (Turn::More, 2, 2),
         (Turn::More, 2, 2),
@@ -215,10 +261,39 @@ fn a_hub_answers_turn_by_turn(rt: HostRuntime) -> Result<(), Fail> {
     Ok(())
 }
 
-// A hub of one session, which puts a row of two pieces.
-fn one_session(alloc: Global) -> Result<Hub, ScriptFault> {
-    let text = b"table e\nsession\nbegin rc\ninsert t1 1 c2500.0\ncommit\n";
-    let script = parse_script(alloc, text)?;
+#[test]
+fn a_refused_draw_has_an_entry_of_its_own(rt: HostRuntime) -> Result<(), Fail> {
+    let Ok(mut hub) = hub_of(rt.alloc(), NO_ID) else {
+        return Err(Fail::new("no hub"));
+    };
+    // The insert has its moment and the draw, a put and an entry for its first value, and then the draw
+    // that is refused.
+    for (turn, reply) in [
+        (Turn::Ended { entry: 0 }, Reply::Okay),
+        (Turn::More, Reply::Okay),
+        (Turn::More, Reply::Okay),
+        (Turn::More, Reply::Okay),
+        (Turn::More, Reply::Okay),
+        (Turn::Ended { entry: 2 }, Reply::NoValueId),
+        (Turn::Ended { entry: 3 }, Reply::RolledBack),
+        (Turn::Nothing, Reply::RolledBack),
+    ] {
+        assert_eq!(rt; first_turn(&mut hub), Some(turn));
+        assert_eq!(rt; last_reply(&hub), Some(&reply));
+    }
+    let kinds = [Kind::Run, Kind::Run, Kind::NoValueId, Kind::Run];
+    assert!(rt; hub.journal().iter().map(|entry| entry.kind).eq(kinds));
+    Ok(())
+}
+
+// The reply of the last line of at most three.
+fn last_reply(hub: &Hub) -> Option<&Reply> {
+    hub.reply(2).or(hub.reply(1)).or(hub.reply(0))
+}
+
+// A hub with a script.
+fn hub_of(alloc: Global, text: &str) -> Result<Hub, ScriptFault> {
+    let script = parse_script(alloc, text.as_bytes())?;
     Ok(Hub::new(alloc, script)?)
 }
 

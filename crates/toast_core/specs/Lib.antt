@@ -1,6 +1,2 @@
-pub mod State
-pub mod Events
-pub mod Sound
-pub mod Looks
-pub mod Jobs
-pub mod Stands
+pub mod Cores
+pub mod Taken

@@ -1,5 +1,5 @@
 use Rattle.std.proofs.Common.{refl}
-use Rattle.script_text.specs.Lines.{lines}
+use Rattle.script_words.specs.Lines.{lines}
 use Rattle.script_text.specs.Scripts.{script_in}
 use Rattle.script_text.specs.Drafts.{read_of}
 use Rattle.script_text.proofs.Steps.{lines_on, lines_refused, lines_end, no_bytes}
@@ -10,7 +10,7 @@ unfolding script_in
 lines-init c = record { goes_on = rw c.new-reader.ensures.read refl; counts = c.new-reader.ensures.counts }
 
 pub returns-in-Err : goal.returns-in-Err
-returns-in-Err c = rw c.at_line.ensures (lines_refused c.in-Err.refusal c.lines.line c.add_words.new.self (read_of c.lines.reader) (lines c.lines.rest.now) _ c.cut_line.result.0.now c.content_of.result.now _ c.cut_line.ensures.cut c.content_of.ensures c.in-Err.ensures c.lines.invariant.goes_on)
+returns-in-Err c = rw c.fault_at.ensures (lines_refused c.in-Err.refusal c.lines.line c.add_words.new.self (read_of c.lines.reader) (lines c.lines.rest.now) _ c.cut_line.result.0.now c.content_of.result.now _ c.cut_line.ensures.cut c.content_of.ensures c.in-Err.ensures c.lines.invariant.goes_on)
 
 pub lines-preserved : goal.lines-preserved
 lines-preserved c = record {

@@ -1,5 +1,5 @@
 use Rattle.std.proofs.Common.{◌≡◌, length}
-use Rattle.script_text.specs.Lines.{lines}
+use Rattle.script_words.specs.Lines.{lines}
 use Rattle.script_text.specs.Scripts.{after_lines, script_in}
 use Rattle.script_text.specs.Drafts.{Counts, read_of}
 use Rattle.script_text.proofs.parse_script.Given as goal

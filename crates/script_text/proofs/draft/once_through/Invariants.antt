@@ -1,5 +1,5 @@
 use Rattle.std.proofs.Common.{◌≡◌, ◌+◌, sum_by, drop}
-use Rattle.script_text.specs.Items.{turns_of}
+use Rattle.script_words.specs.Items.{turns_of}
 use Rattle.script_text.proofs.draft.once_through.Given as goal
 
 abbrev pub invariant-loop-item : goal.invariant-loop-item

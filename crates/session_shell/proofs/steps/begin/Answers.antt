@@ -1,6 +1,9 @@
 use Rattle.std.proofs.lemmas.Result.{err_from_is_err_and}
-use Rattle.session_shell.proofs.Cores.{began, falls_on}
+use Rattle.session_shell.proofs.Cores.{began, falls_on, there_on}
 use Rattle.session_shell.proofs.steps.begin.Goals as goal
+
+pub advance-requires : goal.advance-requires
+advance-requires c = record { session = there_on c.args.core.now c.submit.new.self c.args.session c.args.command.now c.requires.session c.in_ok-submit.ensures.ok }
 
 -- the want came after the submission
 pub returns-in_err-made-clause-falls : goal.returns-in_err-made-clause-falls
@@ -9,4 +12,4 @@ returns-in_err-made-clause-falls c =
     rw p.1 (falls_on c.args.core.now c.submit.new.self c.advance.new.self c.args.session c.in_ok-submit.ensures.stands c.in_err-made.ensures.falls)
 
 pub returns-clause-ok : goal.returns-clause-ok
-returns-clause-ok c = began c.args.core.now c.submit.new.self c.advance.new.self c.args.session c.args.command.now _ c.requires.session c.in_ok-submit.ensures.ok c.in_ok-submit.ensures.stands c.in_ok-made.ensures.moved
+returns-clause-ok c = began c.args.core.now c.submit.new.self c.advance.new.self c.args.session c.args.command.now _ c.requires.session c.in_ok-submit.ensures.ok c.in_ok-submit.ensures.stands c.in_ok-made.ensures.moved c.in_ok-made.ensures.event

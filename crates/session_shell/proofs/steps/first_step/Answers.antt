@@ -8,4 +8,4 @@ pub returns-in-Ok-Done-clause-begins : goal.returns-in-Ok-Done-clause-begins
 returns-in-Ok-Done-clause-begins c = done_first c.args.core.now c.begin.new.core c.args.session c.args.command.now _ _ c.in-Ok-Done.field-0-is c.in-Ok-Done.ensures.ok
 
 pub returns-in-Ok-More-clause-begins : goal.returns-in-Ok-More-clause-begins
-returns-in-Ok-More-clause-begins c = more_first c.args.core.now c.begin.new.core c.args.session c.args.command.now _ _ c.requires.built c.in-Ok-More.field-0-is c.granted_reply.ensures c.in-Ok-More.ensures.ok
+returns-in-Ok-More-clause-begins c = more_first c.args.core.now c.begin.new.core c.args.session c.args.command.now _ _ c.requires.session c.requires.fits c.in-Ok-More.field-0-is c.granted_reply.ensures c.in-Ok-More.ensures.ok

@@ -43,8 +43,8 @@ first_step-first-requires-clause-session c =
 pub first_step-first-requires-clause-idle : goal.first_step-first-requires-clause-idle
 first_step-first-requires-clause-idle c = let q = rw (← c.self.view_is) at c.requires in q.idle
 
-pub first_step-first-requires-clause-built : goal.first_step-first-requires-clause-built
-first_step-first-requires-clause-built c = c.self.invariant.0.rules.built c.args.session (c.index.result.now.begun + 1) c.in-Some.command.now (sym c.in-Some.ensures)
+pub first_step-first-requires-clause-fits : goal.first_step-first-requires-clause-fits
+first_step-first-requires-clause-fits c = rw c.self.invariant.0.schemas (c.self.invariant.0.rules.fits c.args.session (c.index.result.now.begun + 1) c.in-Some.command.now (sym c.in-Some.ensures))
 
 pub first_step-first-requires-clause-stood : goal.first_step-first-requires-clause-stood
 first_step-first-requires-clause-stood c =

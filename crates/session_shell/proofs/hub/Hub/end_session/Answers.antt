@@ -1,6 +1,6 @@
 use Rattle.std.proofs.Common.{sym, ◌∙◌}
 use Rattle.command_set.specs.Journals.{run_of, told_of}
-use Rattle.toast_core.specs.State.{seat_of}
+use Rattle.core_state.specs.State.{seat_of}
 use Rattle.session_shell.specs.contracts.hub.Hub.{the_view}
 use Rattle.session_shell.proofs.News.{idle_of, past_of}
 use Rattle.session_shell.proofs.Finishing.{ends_idle, ends_whole}

@@ -1,13 +1,9 @@
--- A command goes on, is over, or wants memory.
+-- A command goes on, is over, or ends early.
 use Rattle.std.proofs.Common.{◌-◌, ◌∙◌, slice_set, arith, refl, rules, ap}
-use Rattle.std.proofs.lemmas.List.{length-map}
-use Rattle.command_set.specs.declared.journal.Told.{Told}
-use Rattle.command_set.specs.Journals.{run_of}
-use Rattle.session_shell.specs.Hubs.{replies_of}
 use Rattle.session_shell.specs.declared.hub.Progress.{Progress}
 use Rattle.session_shell.specs.contracts.hub.Hub.{the_view}
 use Rattle.session_shell.proofs.Made.{fits}
-use Rattle.session_shell.proofs.Laters.{done_is, keeps_more, later_room, line_is, made_done, made_more, progress_is, wants_of, wants_so}
+use Rattle.session_shell.proofs.Laters.{done_is, granted_of, keeps_more, later_room, line_is, made_done, made_more, progress_is, short_of, short_so}
 use Rattle.session_shell.proofs.hub.Hub.go_on.Goals as goal
 
 pub overflow_sub-at : goal.overflow_sub-at
@@ -29,16 +25,15 @@ later_step-requires-clause-session c =
 pub later_step-requires-clause-under_way : goal.later_step-requires-clause-under_way
 later_step-requires-clause-under_way c = let q = rw (← c.self.view_is) at c.requires in q.under_way
 
-pub later_step-requires-clause-stood : goal.later_step-requires-clause-stood
-later_step-requires-clause-stood c =
+pub later_step-requires-clause-granted : goal.later_step-requires-clause-granted
+later_step-requires-clause-granted c =
     let q = rw (← c.self.view_is) at c.requires in
-    let run = run_of c.self.inside.script c.self.inside.journal.items in
-    record { state = run.plain; replies = replies_of run; within = omega (arith, q.session.from_one, q.session.within, c.self.invariant.0.told, length-map run.told (λ (t : Told). t.reply)); stands = c.self.invariant.0.stands }
+    granted_of (the_view c.self.inside) c.self.inside.progress.items c.args.session c.self.invariant.0 q.session.from_one q.session.within q.under_way
 
 pub invariant_of-self : goal.invariant_of-self
 invariant_of-self c =
     let q = rw (← c.self.view_is) at c.requires in (
-      keeps_more c.self.inside.script c.self.inside.core c.later_step.new.core c.self.inside.journal.items c.self.inside.kept.items c.self.inside.progress.items _ c.args.session c.self.invariant.0 q.session.from_one q.session.within q.under_way c.in-More.ensures.steps.0 c.in-More.ensures.apart c.in-More.ensures.steps.1,
+      keeps_more c.self.inside.script c.self.inside.core c.later_step.new.core c.self.inside.journal.items c.self.inside.kept.items c.self.inside.progress.items _ c.args.session c.self.invariant.0 q.session.from_one q.session.within q.under_way c.in-More.ensures.steps c.in-More.ensures.apart,
       c.self.invariant.1,
       c.self.invariant.2,
     )
@@ -75,26 +70,26 @@ push_entry-requires c =
     let q = rw (← c.self.view_is) at c.requires in
     let old = the_view c.self.inside in
     let ps = c.self.inside.progress.items in
-    let b = wants_of old c.later_step.new.core ps c.args.session c.index.result.now c.self.invariant.0 q.session.from_one q.session.within q.under_way c.index.ensures c.in-Memory.ensures.steps c.in-Memory.ensures.apart in
-    omega (arith, later_room old c.later_step.new.core ps c.args.session c.index.result.now.line b, c.self.invariant.1, c.self.inside.journal.ok.0)
+    let b = short_of old c.later_step.new.core ps c.args.session c.in-Short.cut c.index.result.now c.self.invariant.0 q.session.from_one q.session.within q.under_way c.index.ensures c.in-Short.ensures.steps.0 c.in-Short.ensures.steps.1 c.in-Short.ensures.apart in
+    omega (arith, later_room old c.later_step.new.core ps c.args.session c.in-Short.cut c.index.result.now.line b, c.self.invariant.1, c.self.inside.journal.ok.0)
 
-pub set_reply-requires-in-Memory : goal.set_reply-requires-in-Memory
-set_reply-requires-in-Memory c =
+pub set_reply-requires-in-Short : goal.set_reply-requires-in-Short
+set_reply-requires-in-Short c =
     let q = rw (← c.self.view_is) at c.requires in
     let old = the_view c.self.inside in
     let ps = c.self.inside.progress.items in
     omega (arith, (line_is old ps c.args.session c.index.result.now c.self.invariant.0 q.session.from_one q.session.within q.under_way c.index.ensures).within, c.self.inside.kept.ok.0)
 
-pub invariant_of-self-in-Memory : goal.invariant_of-self-in-Memory
-invariant_of-self-in-Memory c =
+pub invariant_of-self-in-Short : goal.invariant_of-self-in-Short
+invariant_of-self-in-Short c =
     let q = rw (← c.self.view_is) at c.requires in
     let old = the_view c.self.inside in
     let ps = c.self.inside.progress.items in
-    let b = wants_of old c.later_step.new.core ps c.args.session c.index.result.now c.self.invariant.0 q.session.from_one q.session.within q.under_way c.index.ensures c.in-Memory.ensures.steps c.in-Memory.ensures.apart in
-    let so = wants_so old c.later_step.new.core ps c.args.session c.index.result.now c.push_entry.new.journal.items c.set_reply-in-Memory.new.kept.items (slice_set ps (c.args.session - 1) (record { begun = c.index.result.now.begun; entry = c.len-entry.result; line = c.index.result.now.line })) c.len-entry.result c.self.invariant.0 q.session.from_one q.session.within c.index.ensures b c.push_entry.ensures.items c.set_reply-in-Memory.ensures.line refl (c.len-entry.ensures ∙ c.self.inside.journal.ok.0) in (
+    let b = short_of old c.later_step.new.core ps c.args.session c.in-Short.cut c.index.result.now c.self.invariant.0 q.session.from_one q.session.within q.under_way c.index.ensures c.in-Short.ensures.steps.0 c.in-Short.ensures.steps.1 c.in-Short.ensures.apart in
+    let so = short_so old c.later_step.new.core ps c.args.session c.in-Short.cut c.kind.result c.reply.result c.index.result.now c.push_entry.new.journal.items c.set_reply-in-Short.new.kept.items (slice_set ps (c.args.session - 1) (record { begun = c.index.result.now.begun; entry = c.len-entry.result; line = c.index.result.now.line })) c.len-entry.result c.self.invariant.0 q.session.from_one q.session.within c.index.ensures b c.kind.ensures c.reply.ensures c.push_entry.ensures.items c.set_reply-in-Short.ensures.line refl (c.len-entry.ensures ∙ c.self.inside.journal.ok.0) in (
       so.keeps,
       omega (arith, c.self.invariant.1, c.push_entry.ensures.room),
-      omega (arith, c.self.invariant.2, c.set_reply-in-Memory.ensures.room),
+      omega (arith, c.self.invariant.2, c.set_reply-in-Short.ensures.room),
     )
 
 pub returns-in-More-clause-made : goal.returns-in-More-clause-made
@@ -102,13 +97,13 @@ returns-in-More-clause-made c =
     let q = rw (← c.self.view_is) at c.requires in
     let old = the_view c.self.inside in
     let ps = c.self.inside.progress.items in
-    rw (← c.self.view_is) (made_more old c.later_step.new.core ps c.args.session c.self.invariant.0 q.session.from_one q.session.within q.under_way c.in-More.ensures.apart c.in-More.ensures.steps.1)
+    rw (← c.self.view_is) (made_more old c.later_step.new.core ps c.args.session c.self.invariant.0 q.session.from_one q.session.within q.under_way c.in-More.ensures.apart c.in-More.ensures.steps.past)
 
 pub returns-in-More-clause-legal : goal.returns-in-More-clause-legal
 returns-in-More-clause-legal c = c.self.invariant.0.legal
 
 pub returns-in-More-clause-left : goal.returns-in-More-clause-left
-returns-in-More-clause-left c = rw (← c.self.view_is) (λ _. c.in-More.ensures.steps.2)
+returns-in-More-clause-left c = rw (← c.self.view_is) (λ _. c.in-More.ensures.steps.fewer)
 
 pub returns-in-Done-clause-made : goal.returns-in-Done-clause-made
 returns-in-Done-clause-made c =
@@ -124,23 +119,23 @@ returns-in-Done-clause-legal c = c.self.invariant.0.legal
 pub returns-in-Done-clause-left : goal.returns-in-Done-clause-left
 returns-in-Done-clause-left c = λ e. absurd (cc)
 
-pub returns-in-Memory-clause-made : goal.returns-in-Memory-clause-made
-returns-in-Memory-clause-made c =
+pub returns-in-Short-clause-made : goal.returns-in-Short-clause-made
+returns-in-Short-clause-made c =
     let q = rw (← c.self.view_is) at c.requires in
     let old = the_view c.self.inside in
     let ps = c.self.inside.progress.items in
-    let b = wants_of old c.later_step.new.core ps c.args.session c.index.result.now c.self.invariant.0 q.session.from_one q.session.within q.under_way c.index.ensures c.in-Memory.ensures.steps c.in-Memory.ensures.apart in
-    let so = wants_so old c.later_step.new.core ps c.args.session c.index.result.now c.push_entry.new.journal.items c.set_reply-in-Memory.new.kept.items (slice_set ps (c.args.session - 1) (record { begun = c.index.result.now.begun; entry = c.len-entry.result; line = c.index.result.now.line })) c.len-entry.result c.self.invariant.0 q.session.from_one q.session.within c.index.ensures b c.push_entry.ensures.items c.set_reply-in-Memory.ensures.line refl (c.len-entry.ensures ∙ c.self.inside.journal.ok.0) in
+    let b = short_of old c.later_step.new.core ps c.args.session c.in-Short.cut c.index.result.now c.self.invariant.0 q.session.from_one q.session.within q.under_way c.index.ensures c.in-Short.ensures.steps.0 c.in-Short.ensures.steps.1 c.in-Short.ensures.apart in
+    let so = short_so old c.later_step.new.core ps c.args.session c.in-Short.cut c.kind.result c.reply.result c.index.result.now c.push_entry.new.journal.items c.set_reply-in-Short.new.kept.items (slice_set ps (c.args.session - 1) (record { begun = c.index.result.now.begun; entry = c.len-entry.result; line = c.index.result.now.line })) c.len-entry.result c.self.invariant.0 q.session.from_one q.session.within c.index.ensures b c.kind.ensures c.reply.ensures c.push_entry.ensures.items c.set_reply-in-Short.ensures.line refl (c.len-entry.ensures ∙ c.self.inside.journal.ok.0) in
     rw (← c.self.view_is) so.made
 
-pub returns-in-Memory-clause-legal : goal.returns-in-Memory-clause-legal
-returns-in-Memory-clause-legal c =
+pub returns-in-Short-clause-legal : goal.returns-in-Short-clause-legal
+returns-in-Short-clause-legal c =
     let q = rw (← c.self.view_is) at c.requires in
     let old = the_view c.self.inside in
     let ps = c.self.inside.progress.items in
-    let b = wants_of old c.later_step.new.core ps c.args.session c.index.result.now c.self.invariant.0 q.session.from_one q.session.within q.under_way c.index.ensures c.in-Memory.ensures.steps c.in-Memory.ensures.apart in
-    let so = wants_so old c.later_step.new.core ps c.args.session c.index.result.now c.push_entry.new.journal.items c.set_reply-in-Memory.new.kept.items (slice_set ps (c.args.session - 1) (record { begun = c.index.result.now.begun; entry = c.len-entry.result; line = c.index.result.now.line })) c.len-entry.result c.self.invariant.0 q.session.from_one q.session.within c.index.ensures b c.push_entry.ensures.items c.set_reply-in-Memory.ensures.line refl (c.len-entry.ensures ∙ c.self.inside.journal.ok.0) in
+    let b = short_of old c.later_step.new.core ps c.args.session c.in-Short.cut c.index.result.now c.self.invariant.0 q.session.from_one q.session.within q.under_way c.index.ensures c.in-Short.ensures.steps.0 c.in-Short.ensures.steps.1 c.in-Short.ensures.apart in
+    let so = short_so old c.later_step.new.core ps c.args.session c.in-Short.cut c.kind.result c.reply.result c.index.result.now c.push_entry.new.journal.items c.set_reply-in-Short.new.kept.items (slice_set ps (c.args.session - 1) (record { begun = c.index.result.now.begun; entry = c.len-entry.result; line = c.index.result.now.line })) c.len-entry.result c.self.invariant.0 q.session.from_one q.session.within c.index.ensures b c.kind.ensures c.reply.ensures c.push_entry.ensures.items c.set_reply-in-Short.ensures.line refl (c.len-entry.ensures ∙ c.self.inside.journal.ok.0) in
     so.keeps.legal
 
-pub returns-in-Memory-clause-left : goal.returns-in-Memory-clause-left
-returns-in-Memory-clause-left c = λ e. absurd (cc)
+pub returns-in-Short-clause-left : goal.returns-in-Short-clause-left
+returns-in-Short-clause-left c = λ e. absurd (cc)

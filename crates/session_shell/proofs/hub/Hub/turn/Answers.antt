@@ -1,7 +1,7 @@
 -- A session that is idle begins a command, any other goes on with its own.
 use Rattle.std.proofs.Common.{arith, sym, ◌∙◌}
 use Rattle.command_set.specs.Journals.{run_of, told_of}
-use Rattle.toast_core.specs.State.{seat_of}
+use Rattle.core_state.specs.State.{seat_of}
 use Rattle.session_shell.proofs.News.{idle_of, idle_not_past, past_of}
 use Rattle.session_shell.proofs.hub.Hub.turn.Goals as goal
 

@@ -1,4 +1,4 @@
-use Rattle.toast_core.specs.Events.{left}
+use Rattle.core_state.specs.Events.{left}
 use Rattle.session_shell.proofs.Whole.{SoFar, turns_left}
 use Rattle.session_shell.proofs.hub.Hub.turn_until_ended.Given as goal
 

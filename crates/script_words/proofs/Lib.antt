@@ -1,0 +1,5 @@
+pub mod Counted
+pub mod Cuts
+pub mod Digits
+pub mod Spelled
+pub mod Steps

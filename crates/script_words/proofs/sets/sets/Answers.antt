@@ -1,0 +1,15 @@
+use Rattle.std.proofs.lemmas.Result.{err_from_is_err_and}
+use Rattle.script_words.specs.Lines.{words}
+use Rattle.script_words.proofs.Steps.{sets_on, sets_end, sets_refused}
+use Rattle.script_words.proofs.sets.sets.Goals as goal
+
+pub returns-in_err-found : goal.returns-in_err-found
+returns-in_err-found c =
+    let p = err_from_is_err_and c.from_residual.result c.from_residual.ensures.1 in
+    rw (p.1, p.2) (sets_refused c.args.columns c.in_err-found.field-0.0 c.words.sets (words c.words.rest.now) _ c.in-Some.word.now _ c.in-Some.ensures.found (rw c.as_slice.ensures at c.in_err-found.ensures) c.words.invariant)
+
+pub words-preserved : goal.words-preserved
+words-preserved c = sets_on c.args.columns c.words.sets c.push.new.self (words c.words.rest.now) _ c.in-Some.word.now c.in_ok-found.found _ c.in-Some.ensures.found (rw c.as_slice.ensures at c.in_ok-found.ensures) c.in_ok-push.ensures.ok c.words.invariant
+
+pub returns : goal.returns
+returns c = sets_end c.args.columns c.words.sets (words c.words.rest.now) _ c.in_default.ensures.found c.words.invariant

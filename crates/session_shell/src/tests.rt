@@ -256,7 +256,7 @@ fn a_hub_answers_turn_by_turn(rt: HostRuntime) -> Result<(), Fail> {
         assert_eq!(rt; first_turn(&mut hub), Some(turn));
         assert_eq!(rt; hub.journal().len(), entries);
         assert!(rt; hub.reply(replies).is_none());
-        assert_eq!(rt; hub.reply(replies - 1), Some(&Reply::Okay));
+        assert_eq!(rt; last_reply(&hub), Some(&Reply::Okay));
     }
     Ok(())
 }

@@ -9,3 +9,4 @@ pub mod Lefts
 pub mod Tells
 pub mod Rows
 pub mod Starts
+mod Readers

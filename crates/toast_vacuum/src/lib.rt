@@ -11,6 +11,8 @@ pub mod laws;
 mod stage;
 mod sweepable;
 mod targets;
+#[cfg(test)]
+mod tests;
 mod vacuum;
 
 pub use slot_page::TidList;

@@ -1,22 +1,27 @@
 //! Why a lock is not granted.
 
 use std::alloc::AllocError;
+use thiserror::Error;
 
 /// Why a lock on a table is not granted.
-#[derive(Clone, Copy, Debug, PartialEq, Eq)]
+#[derive(Clone, Copy, Debug, PartialEq, Eq, Error)]
 pub enum LockFault {
     /// This session is in the way, and no session with a lower number is.
+    #[error("session {session} is in the way")]
     Locked { session: u16 },
     /// No memory was left.
+    #[error("out of memory")]
     Memory,
 }
 
 /// Why a lock on a row is not granted.
-#[derive(Clone, Copy, Debug, PartialEq, Eq)]
+#[derive(Clone, Copy, Debug, PartialEq, Eq, Error)]
 pub enum ClaimFault {
     /// This session has claimed the row.
+    #[error("session {session} has claimed the row")]
     Busy { session: u16 },
     /// No memory was left.
+    #[error("out of memory")]
     Memory,
 }
 

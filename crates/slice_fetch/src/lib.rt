@@ -5,6 +5,8 @@
 ghost use Rattle.std.specs.Prelude.{◌≡◌, ℕ, ◌+◌, ◌-◌, ◌/◌, ◌≤◌, ◌<◌, ◌↔◌, ◌<ℤ◌, pos, List, length, min, unsigned_abs, IsErr, IfOk, IsNone, IfSome};
 ghost use Rattle.slice_fetch.specs.Spans.{IsSlice, bytes_in, chunk_size, pieces_joined, seen_from};
 
+use thiserror::Error;
+
 #[cfg(test)]
 mod tests;
 
@@ -19,7 +21,8 @@ pub struct Span {
 }
 
 /// A slice's offset is negative.
-#[derive(Clone, Copy, Debug, PartialEq, Eq)]
+#[derive(Clone, Copy, Debug, PartialEq, Eq, Error)]
+#[error("a slice's offset is negative")]
 pub struct BadOffset;
 
 /// The bytes that a slice of a value of this size names: from the offset on so many as the length says.

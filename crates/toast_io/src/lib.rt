@@ -1,10 +1,12 @@
 //! Bytes in and out: traits for what gives and what takes bytes, with causes for their failures,
-//! implementations in memory and over std's readers and writers, and reading and writing whole.
+//! implementations in memory and over std's readers and writers, and reading and writing whole; and
+//! what may hold a thread before its turn.
 #![tactic(auto)]
 
 use list_facts::ListOf;
 
 mod fault;
+mod gate;
 mod mem_sink;
 mod mem_source;
 mod sink;
@@ -16,6 +18,7 @@ mod tests;
 mod whole;
 
 pub use fault::{Failed, ReadAllFault};
+pub use gate::{Gate, OpenGate};
 pub use mem_sink::MemSink;
 pub use mem_source::MemSource;
 pub use sink::Sink;

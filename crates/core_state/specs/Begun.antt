@@ -9,7 +9,7 @@ use Rattle.tuple_layout.specs.declared.Storage.{Storage}
 use Rattle.tuple_layout.specs.declared.cell.Cell.{Cell}
 use Rattle.tuple_layout.specs.declared.cell.Cell.TheVariants.{Inline, Null, Out}
 use Rattle.tuple_layout.specs.declared.cell.Stored.{Stored}
-use Rattle.tuple_toaster.specs.Pushed.{pushed}
+use Rattle.tuple_toaster.specs.Pushed.{pushed, tuple_target}
 use Rattle.slice_fetch.specs.declared.Span.{Span}
 use Rattle.xact_status.specs.Xacts.{next_xid}
 use Rattle.snapshot_registry.specs.Snapshots.{Snaps, least_free}
@@ -45,10 +45,6 @@ cells_with cells sets = map (λ (column, cell). option_map_or cell_in_line (valu
 
 abbrev pub updated_row : Stored → ℤ → List Set → Stored
 updated_row old key sets = record { key = key; cells = cells_with old.cells sets }
-
--- so many bytes a tuple is to take at most, if columns can go out of line (TOAST_TUPLE_TARGET)
-abbrev pub tuple_target : ℕ
-tuple_target = 2032
 
 -- the columns that go out, in the order in which they are saved
 abbrev pub plan_of : List Storage → Option Stored → List ℕ

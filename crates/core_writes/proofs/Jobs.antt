@@ -34,7 +34,8 @@ use Rattle.write_steps.specs.Writes.{bytes_of, new_write, old_cells, parts_of, t
 use Rattle.write_steps.specs.declared.stage.OldRow.{OldRow}
 use Rattle.write_steps.specs.declared.stage.Owner.{Owner}
 use Rattle.core_state.proofs.Seats.{sound_of}
-use Rattle.core_state.specs.Begun.{plan_of, tuple_target}
+use Rattle.tuple_toaster.specs.Pushed.{tuple_target}
+use Rattle.core_state.specs.Begun.{plan_of}
 use Rattle.core_state.specs.Coming.{ids_of, is_elsewhere}
 use Rattle.core_state.specs.Facts.{IsSound, MayPin, WriteIsSound, ids_in}
 use Rattle.core_state.specs.State.{CoreState, IsSession, is_past_moment, seat_of, table_at, xid_of}

@@ -14,7 +14,7 @@ use Rattle.tuple_layout.specs.declared.cell.Stored.{Stored}
 use Rattle.tuple_toaster.proofs.Going.{pushed_distinct, pushed_go}
 use Rattle.tuple_toaster.proofs.Walks.{large_has_all}
 use Rattle.tuple_toaster.specs.Kept.{MayGo}
-use Rattle.tuple_toaster.specs.Pushed.{all_moved_size, pushed, size_with}
+use Rattle.tuple_toaster.specs.Pushed.{all_moved_size, pushed, size_with, tuple_target}
 use Rattle.slot_page.specs.Slots.{IsNormal, item_of}
 use Rattle.slot_page.specs.declared.line.LinePointer.{LinePointer}
 use Rattle.slot_page.specs.declared.line.LinePointer.TheVariants.{Dead, Normal, Unused}
@@ -24,7 +24,6 @@ use Rattle.write_steps.specs.Standing.{CanGoOut, CanPush, Fits, HoldsNoPin, IsOl
 use Rattle.write_steps.specs.Writes.{Parts, cell_of, saving_from}
 use Rattle.write_steps.specs.declared.stage.OldRow.{OldRow}
 use Rattle.write_steps.specs.declared.stage.Owner.{Owner}
-use Rattle.core_state.specs.Begun.{tuple_target}
 
 -- what is known of a new row before its write begins: a cell for each column, within limits, and a tuple that fits with all out of line that may be
 pub record CanSave (storages : List Storage) (new : Stored) : Type 0 where

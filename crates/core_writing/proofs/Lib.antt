@@ -1,8 +1,6 @@
 pub mod Claimers
 pub mod Asking
 pub mod Given
-pub mod Least
-pub mod Sizes
 pub mod Replies
 pub mod Made
 pub mod Rows

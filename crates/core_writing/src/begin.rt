@@ -23,11 +23,8 @@ use core_state::seat::Job;
 use std::alloc::AllocError;
 use table_state::FoundRow;
 use tuple_layout::{Schema, Stored};
-use tuple_toaster::{OutColumns, plan};
+use tuple_toaster::{OutColumns, TUPLE_TARGET, plan};
 use write_steps::{OldRow, WriteJob};
-
-/// So many bytes a tuple is to take at most, if columns can go out of line (TOAST_TUPLE_TARGET).
-const TUPLE_TARGET: usize = 2032;
 
 /// A row that a look-up has found, as the one that a write ends.
 pub(crate) fn old_row(found: FoundRow) -> OldRow

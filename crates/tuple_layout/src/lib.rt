@@ -25,6 +25,7 @@ pub use size::{
 };
 use std::alloc::{AllocError, Global};
 use std::marker::Model;
+use thiserror::Error;
 pub use toast_io::Bytes;
 
 /// A row's byte strings in the order of their columns, each of at most 65,536 bytes; `None` is null.
@@ -67,11 +68,13 @@ impl Model for Schema {
 }
 
 /// Why a list of storages makes no schema.
-#[derive(Clone, Copy, Debug, PartialEq, Eq)]
+#[derive(Clone, Copy, Debug, PartialEq, Eq, Error)]
 pub enum SchemaFault {
     /// There are none, or more than 8.
+    #[error("a table has 1 to 8 columns, not {got}")]
     Count { got: usize },
     /// No memory was left.
+    #[error("out of memory")]
     Memory,
 }
 

@@ -3,3 +3,5 @@ pub mod Walks
 pub mod Least
 pub mod AllOut
 pub mod Going
+pub mod AllLeast
+pub mod AllSmall

@@ -3,6 +3,11 @@ use Rattle.std.specs.Prelude.{ℕ, ◌+◌, Bool, List, [], ◌∷◌, ◌++◌,
 use Rattle.std.specs.List.{list_any}
 use Rattle.tuple_layout.specs.declared.Storage.{Storage}
 use Rattle.tuple_layout.specs.Sizes.{Width, Missing, Within, Outside, may_go_out, size}
+use Rattle.tuple_toaster.specs.declared.choice.TheConstants.{TUPLE_TARGET}
+
+-- so many bytes a tuple is to take at most, if columns can go out of line
+abbrev pub tuple_target : ℕ
+tuple_target = TUPLE_TARGET
 
 -- columns with their lengths
 abbrev pub Columns : Type 0

@@ -8,12 +8,17 @@ ghost use Rattle.tuple_toaster.specs.Pushed.{all_moved_size, pushed, size_with, 
 
 use crate::columns::OutColumns;
 use crate::largest::largest;
+use thiserror::Error;
 use tuple_layout::{
     Cell, KEY_SIZE, LARGEST_TUPLE, POINTER_SIZE, Schema, Storage, column_end, header_size,
 };
 
+/// So many bytes a tuple is to take at most, if columns can go out of line (TOAST_TUPLE_TARGET).
+pub const TUPLE_TARGET: usize = 2032;
+
 /// A tuple is too large for a page, whatever goes out of line.
-#[derive(Clone, Copy, Debug, PartialEq, Eq)]
+#[derive(Clone, Copy, Debug, PartialEq, Eq, Error)]
+#[error("a tuple takes {size} bytes with every column out of line that may go out")]
 pub struct RowTooBig {
     /// Its size in bytes with every column out of line that may go out.
     pub size: usize,

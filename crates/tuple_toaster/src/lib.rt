@@ -8,7 +8,7 @@ mod columns;
 mod largest;
 mod law;
 
-pub use choice::{RowTooBig, all_moved_size, plan};
+pub use choice::{RowTooBig, TUPLE_TARGET, all_moved_size, plan};
 pub use columns::OutColumns;
 pub use law::{cells_widths, least_size, one_all_out_size, pushed_may_go, pushed_widths};
 

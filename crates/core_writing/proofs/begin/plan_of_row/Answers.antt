@@ -4,11 +4,10 @@ use Rattle.std.specs.Prelude.{Bool, List, false, nat_lt, ◌≡◌, ◌≤◌}
 use Rattle.tuple_layout.specs.Sizes.{largest_tuple}
 use Rattle.tuple_layout.specs.Tuples.{cell_widths}
 use Rattle.tuple_layout.specs.declared.cell.Cell.{Cell}
-use Rattle.tuple_toaster.specs.Pushed.{all_moved_size, pushed, size_with}
+use Rattle.tuple_toaster.proofs.AllLeast.{all_least}
+use Rattle.tuple_toaster.proofs.AllSmall.{size_small}
+use Rattle.tuple_toaster.specs.Pushed.{all_moved_size, pushed, size_with, tuple_target}
 use Rattle.command_set.specs.Replies.{answers_if}
-use Rattle.core_state.specs.Begun.{tuple_target}
-use Rattle.core_writing.proofs.Least.{all_least}
-use Rattle.core_writing.proofs.Sizes.{size_small}
 use Rattle.command_set.specs.declared.Reply.TheVariants as replies
 use Rattle.core_writing.proofs.begin.plan_of_row.Goals as goal
 

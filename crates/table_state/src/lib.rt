@@ -7,5 +7,7 @@
 
 pub mod laws;
 mod table;
+#[cfg(test)]
+mod tests;
 
 pub use table::{FoundRow, Table};

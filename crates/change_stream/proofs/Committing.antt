@@ -1,11 +1,9 @@
 -- A commit: its transaction is sent, and what holds of the others goes on.
 use Rattle.std.proofs.Common.{◌≡◌, ◌≢◌, ◌≤◌, ◌-◌, ◌+◌, ℕ, Bool, true, false, cond, List, [], ◌∷◌, ◌++◌, Option, Some, None, Ok, length, refl, sym, ap, ◌∙◌, subst, inl, inr, arith, suc, zero}
 use Rattle.std.specs.Prelude.{◌||◌, map as mapped, is_some, slice_get, if◌then◌else◌}
-use Rattle.std.specs.List.{enumerate_from, flat_map}
 use Rattle.std.specs.Option.{option_map, unwrap_or}
 use Rattle.std.proofs.lemmas.Bool.{cases_eq}
-use Rattle.std.proofs.lemmas.Grind.{flat_map-append}
-use Rattle.std.proofs.lemmas.List.{length-set, length-map}
+use Rattle.std.proofs.lemmas.List.{length-set, length-map, map-append}
 use Rattle.std.specs.FinMap as map
 use Rattle.tuple_layout.specs.declared.Place.{Place}
 use Rattle.tuple_layout.specs.Places.{Rows}
@@ -22,28 +20,22 @@ use Rattle.command_set.specs.Journals.{Moment}
 use Rattle.command_set.proofs.Named.{named_append}
 use Rattle.command_set.proofs.Numbered.{nth_set_other, nth_set_same}
 use Rattle.command_set.proofs.Outcomes.{fold_other}
+use Rattle.stream_wire.specs.Transactions as wire
 use Rattle.stream_wire.specs.declared.message.Message.TheVariants as messages
+use Rattle.stream_wire.proofs.Transactions.{messages_of-push}
 use Rattle.replica_map.specs.Applies.{and_then, apply_all, apply_stream}
 use Rattle.change_stream.specs.declared.written.Written.{Written}
-use Rattle.change_stream.specs.Streams.{Stream, changes_of, commits, kept_by, message_of, messages_of, outs_with, stream_after, transaction, with_sent, written_after, written_of}
+use Rattle.change_stream.specs.Streams.{Stream, changes_of, commits, kept_by, message_of, messages_of, outs_with, sent_changes, stream_after, transaction, with_sent, written_after, written_of}
 use Rattle.replica_map.proofs.Streams.{apply_all-append}
 use Rattle.change_stream.proofs.Sending.{AreSent, changes_in, messages_apply, sent_alike}
 use Rattle.change_stream.proofs.Holding.{Holds, IsTold, changes_are, next_none, next_written, transaction_in}
 
-enumerate_from-append : {X : Type 0} (n : ℕ) (xs ys : List X) → enumerate_from n (xs ++ ys) ≡ enumerate_from n xs ++ enumerate_from (n + length xs) ys
-enumerate_from-append n [] ys = let same : n ≡ n + 0 = omega arith in ap (λ k. enumerate_from k ys) same
-enumerate_from-append n (x ∷ xs) ys = let same : n + 1 + length xs ≡ n + suc (length xs) = omega arith in ap (λ rest. (n, x) ∷ rest) (enumerate_from-append (n + 1) xs ys ∙ ap (λ k. enumerate_from (n + 1) xs ++ enumerate_from k ys) same)
-
-append_nil : {X : Type 0} (xs : List X) → xs ++ [] ≡ xs
-append_nil [] = refl
-append_nil (x ∷ xs) = ap (λ rest. x ∷ rest) (append_nil xs)
-
 -- the messages of one transaction more
-messages_push : (sent : List (List Written)) (ws : List Written) → messages_of (sent ++ ws ∷ []) ≡ messages_of sent ++ transaction (1 + length sent, ws)
+pub messages_push : (sent : List (List Written)) (ws : List Written) → messages_of (sent ++ ws ∷ []) ≡ messages_of sent ++ transaction (1 + length sent, ws)
 messages_push sent ws =
-    ap (flat_map transaction) (enumerate_from-append 1 sent (ws ∷ []))
-    ∙ flat_map-append transaction (enumerate_from 1 sent) ((1 + length sent, ws) ∷ [])
-    ∙ ap (λ ms. messages_of sent ++ ms) (append_nil (transaction (1 + length sent, ws)))
+    ap wire.messages_of (map-append (λ (changes : List Written). mapped message_of changes) sent (ws ∷ []))
+    ∙ messages_of-push (sent_changes sent) (mapped message_of ws)
+    ∙ ap (λ (count : ℕ). messages_of sent ++ transaction (1 + count, ws)) (length-map sent (λ (changes : List Written). mapped message_of changes))
 
 -- the messages of a transaction make its changes
 transaction_applies : (number : ℕ) (rows : Rows) (ws : List Written) → AreSent rows ws → apply_all rows (transaction (number, ws)) ≡ Ok (fold_changes (changes_in ws) rows)

@@ -13,12 +13,14 @@ use Rattle.command_set.specs.declared.state.Change.TheVariants.{Insert, Update, 
 use Rattle.command_set.specs.Changes.{fold_changes, outcome, place, said}
 use Rattle.command_set.specs.Plain.{row_with, value_set}
 use Rattle.command_set.proofs.Outcomes.{get_fold}
+use Rattle.stream_wire.specs.Transactions as wire
+use Rattle.stream_wire.specs.declared.message.Message.{Message}
 use Rattle.stream_wire.specs.declared.message.Message.TheVariants as messages
 use Rattle.stream_wire.specs.declared.message.Sent.{Sent}
 use Rattle.stream_wire.specs.declared.message.Sent.TheVariants as sent
 use Rattle.stream_wire.specs.Spelling.{AreColumns, IsInRange, IsShort, IsTable}
 use Rattle.change_stream.specs.declared.written.Written.{Written}
-use Rattle.change_stream.specs.Streams.{message_by, message_of, messages_of, sent_row, sent_value, transaction}
+use Rattle.change_stream.specs.Streams.{message_by, message_of, messages_of, sent_changes, sent_row, sent_value, transaction}
 use Rattle.change_stream.specs.Ranges.{IsRow, IsValue}
 use Rattle.change_stream.proofs.Columns.{length-sent, length-set_row}
 use Rattle.change_stream.proofs.Sending.{changes_in}
@@ -93,9 +95,14 @@ transactions_from n (ws ∷ transactions) one its =
     (all_append IsInRange (mapped message_of ws) (messages.Commit n ∷ []) (changes_sent ws (all_first P ws transactions its)) (all_cons IsInRange (messages.Commit n) [] one (all_nil IsInRange))))
     (transactions_from (n + 1) transactions (omega (arith, one)) (all_rest P ws transactions its))
 
+-- the messages of transactions are those of their changes
+same_messages : (n : ℕ) (transactions : List (List Written)) → flat_map transaction (enumerate_from n transactions) ≡ flat_map wire.transaction (enumerate_from n (sent_changes transactions))
+same_messages n [] = refl
+same_messages n (ws ∷ transactions) = ap (λ (others : List Message). transaction (n, ws) ++ others) (same_messages (n + 1) transactions)
+
 -- their messages are in range
 pub messages_in_range : (transactions : List (List Written)) → AreTransactions transactions → All IsInRange (messages_of transactions)
-messages_in_range transactions its = transactions_from 1 transactions (omega arith) its
+messages_in_range transactions its = subst (All IsInRange) (same_messages 1 transactions) (transactions_from 1 transactions (omega arith) its)
 
 -- ---- rows
 

@@ -1,6 +1,6 @@
 -- The change stream of a journal, told by its moments: what each commit sends.
 use Rattle.std.specs.Prelude.{ℕ, ◌-◌, Bool, true, false, List, [], ◌∷◌, ◌++◌, Option, Some, None, length, take, drop, map as mapped, slice_set, replicate, ◌==◌, ◌&&◌, is_none, if◌then◌else◌}
-use Rattle.std.specs.List.{filter, enumerate_from, flat_map}
+use Rattle.std.specs.List.{filter, enumerate_from}
 use Rattle.std.specs.Option.{option_map_or, option_or, unwrap_or}
 use Rattle.std.specs.FinMap as map
 use Rattle.tuple_layout.specs.declared.Place.{Place}
@@ -20,6 +20,7 @@ use Rattle.command_set.specs.Changes.{place}
 use Rattle.command_set.specs.Plain.{nth, session_of, value_set}
 use Rattle.command_set.specs.Replies.{is_granted, open_transaction, schema_of}
 use Rattle.command_set.specs.Journals.{Moment, is_run, moments}
+use Rattle.stream_wire.specs.Transactions as wire
 use Rattle.stream_wire.specs.declared.message.Message.{Message}
 use Rattle.stream_wire.specs.declared.message.Message.TheVariants as messages
 use Rattle.stream_wire.specs.declared.message.Sent.{Sent}
@@ -160,11 +161,15 @@ message_of w = message_by w.change w.kept
 
 -- a transaction as it is sent, with its number
 abbrev pub transaction : ℕ × List Written → List Message
-transaction (number, ws) = messages.Begin number ∷ mapped message_of ws ++ messages.Commit number ∷ []
+transaction (number, ws) = wire.transaction (number, mapped message_of ws)
+
+-- the changes of each transaction as they are sent
+abbrev pub sent_changes : List (List Written) → List (List Message)
+sent_changes transactions = mapped (λ ws. mapped message_of ws) transactions
 
 -- transactions in order, numbered from 1
 abbrev pub messages_of : List (List Written) → List Message
-messages_of transactions = flat_map transaction (enumerate_from 1 transactions)
+messages_of transactions = wire.messages_of (sent_changes transactions)
 
 -- the transactions that a journal sends
 abbrev pub transactions : Script → List JournalEntry → List (List Written)

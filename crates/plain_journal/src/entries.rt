@@ -148,8 +148,8 @@ fn upkeep_of_others(
     Ok(others)
 }
 
-// The state without a session's upkeep.
-fn without_upkeep(alloc: Global, store: Plain, session: u16) -> Result<Plain, AllocError>
+/// The state without a session's upkeep.
+pub fn without_upkeep(alloc: Global, store: Plain, session: u16) -> Result<Plain, AllocError>
     ensures { IfOk result (λ after. after ≡ without_upkeep store session) }
 {
     let mut after = store;
@@ -166,8 +166,8 @@ fn runs_upkeep(store: &Plain, session: u16) -> bool
     upkeep.iter().any(|running| running.session == session)
 }
 
-// The state after a command of a session has ended early.
-fn cut_short(alloc: Global, store: Plain, session: u16) -> Result<Plain, AllocError>
+/// The state after a command of a session has ended early.
+pub fn cut_short(alloc: Global, store: Plain, session: u16) -> Result<Plain, AllocError>
     ensures { IfOk result (λ after. after ≡ cut_short store session) }
 {
     if runs_upkeep(&store, session) {

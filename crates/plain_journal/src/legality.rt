@@ -82,8 +82,8 @@ fn takes_no_memory(command: &Command) -> bool
     )
 }
 
-// Whether a reply is the granted one.
-fn is_granted(reply: &Reply) -> bool
+/// Whether a reply is the granted one.
+pub fn is_granted(reply: &Reply) -> bool
     ensures { result ≡ is_granted reply.now }
 {
     matches!(

@@ -2,7 +2,7 @@
 //! are legal and complete. Slow and simple, as the plain program on which it stands.
 #![tactic(auto)]
 
-mod entries;
+pub mod entries;
 pub mod legality;
 pub mod runs;
 

@@ -1,14 +1,17 @@
 -- A log of few entries and bytes, each entry within its ranges, can be decoded.
-use Rattle.std.proofs.Common.{eqb, ◌≡◌, ◌≤◌, ◌<◌, ◌^◌, ℕ, ◌+◌, Bool, true, false, cond, not, List, [], ◌∷◌, ◌++◌, Option, Some, None, length, reverse, filter, filter_map, sum_by, is_none, refl, ap, subst, ◌∙◌, arith, suc}
+use Rattle.std.proofs.Common.{eqb, ◌≡◌, ◌≤◌, ◌<◌, ◌^◌, ℕ, ◌+◌, Bool, true, false, cond, not, List, [], ◌∷◌, ◌++◌, Option, Some, None, Result, Ok, Err, length, reverse, filter, filter_map, sum_by, is_none, refl, sym, ap, subst, ◌∙◌, arith, suc}
 use Rattle.std.specs.List.{All, cons_option, take_while, prefix_len}
 use Rattle.std.proofs.lemmas.List.{length-append, length-take, reverse-append}
 use Rattle.std.proofs.lemmas.List.Sums.{sum_by-append, sum_by-cons, sum_by-take-le}
 use Rattle.std.proofs.lemmas.List.Concat.{length-flat_map}
 use Rattle.change_log.specs.declared.entry.LogEntry.{LogEntry}
 use Rattle.change_log.specs.declared.entry.LogEntry.TheVariants.{Chunk, Insert, Update, Delete, Commit, Abort}
-use Rattle.decode_stream.specs.Decoding.{xid_of, is_end, is_change, is_chunk_of, chunk_bytes, fronts_after, with_fronts, behind_last, open_entries, value_of, gathered, fault_at, commit_at, commits}
+use Rattle.decode_stream.specs.declared.fault.DecodeFault.{DecodeFault}
+use Rattle.decode_stream.specs.declared.fault.DecodeFault.TheVariants.{ChunkOrder, SizeOf, Memory}
+use Rattle.decode_stream.specs.Decoding.{TransactionState, xid_of, is_end, is_change, is_chunk_of, chunk_bytes, fronts_after, with_fronts, behind_last, open_entries, value_of, gathered, fault_at, commit_at, commits}
 use Rattle.std.proofs.lemmas.List.Elements.{All-cons, All-nil}
-use Rattle.decode_stream.specs.States.{DecoderState, Decodes, Fits, HasRoom, IsDecodable, found_of, open_at}
+use Rattle.decode_stream.specs.Growing.{FitsFed}
+use Rattle.decode_stream.specs.States.{DecoderState, Decodes, Feeds, Fits, HasRoom, IsDecodable, Stays}
 use Rattle.decode_stream.proofs.Wholes.{fits_next, sent_nothing}
 
 module _ {X : Type 0} (w : X → ℕ) where
@@ -107,6 +110,20 @@ decodable log few short ranged = record {
 }
 
 -- a decoder's first entry
-pub first_fits : (state : DecoderState) (e : LogEntry) → Decodes state [] → IsRanged e → weight e < 2 ^ 32 → Fits (found_of (open_at state.table (xid_of e))) e
+pub first_fits : (state : DecoderState) (e : LogEntry) → Decodes state [] → IsRanged e → weight e < 2 ^ 32 → FitsFed state e
 first_fits state e is ranged short =
     fits_next (e ∷ []) [] [] e state [] (decodable (e ∷ []) (omega arith) (omega (arith, sum_by-cons weight e [], short)) (All-cons IsRanged e [] ranged (All-nil IsRanged))) refl (sent_nothing state [] is refl)
+
+-- whatever a decoder that was fed a log answers, it was then fed one
+stands_on : (log : List LogEntry) (e : LogEntry) (old new : DecoderState) (r : Result (Option TransactionState) DecodeFault) → Decodes old log → Feeds log e new r → Stays old new r → (now : List LogEntry) × Decodes new now
+stands_on log e old new (Ok given) is fed stays = (log ++ e ∷ [], fed.2)
+stands_on log e old new (Err (ChunkOrder got wanted)) is fed stays = (log ++ e ∷ [], fed.1)
+stands_on log e old new (Err (SizeOf got wanted)) is fed stays = (log ++ e ∷ [], fed.1)
+stands_on log e old new (Err Memory) is fed stays = (log, subst (λ (state : DecoderState). Decodes state log) (sym stays) is)
+
+-- so the end of a transaction can be fed to it
+pub commit_fits : (log : List LogEntry) (e : LogEntry) (old new : DecoderState) (r : Result (Option TransactionState) DecodeFault) (xid : ℕ) → Decodes old log → Feeds log e new r → Stays old new r → FitsFed new (Commit xid)
+commit_fits log e old new r xid is fed stays = let now = stands_on log e old new r is fed stays in (now.0, now.1, tt)
+
+pub abort_fits : (log : List LogEntry) (e : LogEntry) (old new : DecoderState) (r : Result (Option TransactionState) DecodeFault) (xid : ℕ) → Decodes old log → Feeds log e new r → Stays old new r → FitsFed new (Abort xid)
+abort_fits log e old new r xid is fed stays = let now = stands_on log e old new r is fed stays in (now.0, now.1, tt)

@@ -87,11 +87,11 @@ module _ (found : Found) (table : ℕ) (before : List Cell) (cell : Cell) (rest 
       ∙ joined
 
 -- no fault among several
-none_first : (o : Option DecodeFault) (more : List DecodeFault) → first (cons_option o more) ≡ None → o ≡ None
+pub none_first : (o : Option DecodeFault) (more : List DecodeFault) → first (cons_option o more) ≡ None → o ≡ None
 none_first None more e = refl
 none_first (Some f) more e = absurd (cc)
 
-none_later : (o : Option DecodeFault) (more : List DecodeFault) → first (cons_option o more) ≡ None → first more ≡ None
+pub none_later : (o : Option DecodeFault) (more : List DecodeFault) → first (cons_option o more) ≡ None → first more ≡ None
 none_later None more e = e
 none_later (Some f) more e = absurd (cc)
 

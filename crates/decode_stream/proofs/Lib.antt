@@ -1,7 +1,9 @@
 pub mod Bounds
 pub mod Columns
 pub mod Firsts
+pub mod Growing
 pub mod Lists
+pub mod Messages
 pub mod Opens
 pub mod Parts
 pub mod Results

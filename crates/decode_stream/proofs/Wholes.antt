@@ -1,15 +1,15 @@
 -- A log that is decoded entry by entry.
-use Rattle.std.proofs.Common.{◌≡◌, ◌≤◌, ◌<◌, ◌^◌, ℕ, ◌+◌, List, [], ◌∷◌, ◌++◌, Option, Some, None, Ok, Err, length, refl, sym, ap, subst, ◌∙◌, append_assoc, add-zero, zero-add, arith, suc}
+use Rattle.std.proofs.Common.{◌≡◌, ◌≤◌, ◌<◌, ◌^◌, ℕ, ◌+◌, List, [], ◌∷◌, ◌++◌, Option, Some, None, Ok, Err, length, refl, sym, ap, ◌∙◌, append_assoc, add-zero, zero-add, arith, suc}
 use Rattle.std.specs.List.{cons_option}
 use Rattle.std.proofs.lemmas.List.{append-nil, length-append}
 use Rattle.stream_wire.specs.declared.message.Message.{Message}
 use Rattle.change_log.specs.declared.entry.LogEntry.{LogEntry}
 use Rattle.decode_stream.specs.declared.fault.DecodeFault.{DecodeFault}
 use Rattle.decode_stream.specs.declared.fault.DecodeFault.TheVariants.{ChunkOrder, SizeOf, Memory}
-use Rattle.decode_stream.specs.Decoding.{TransactionState, fault_at, commit_at, first_fault, commits, numbered, decoded, with_fronts, xid_of, Found}
-use Rattle.decode_stream.specs.States.{DecoderState, Decodes, Feeds, IsDecodable, IsDecoded, Fits, found_of, open_at, next_of}
+use Rattle.decode_stream.specs.Decoding.{TransactionState, fault_at, commit_at, first_fault, commits, numbered, decoded, with_fronts}
+use Rattle.decode_stream.specs.Growing.{FitsFed}
+use Rattle.decode_stream.specs.States.{DecoderState, Decodes, Feeds, IsDecodable, IsDecoded, next_of}
 use Rattle.decode_stream.specs.Steps.{IsSent, Tells}
-use Rattle.decode_stream.proofs.Opens.{found_is}
 use Rattle.decode_stream.proofs.Firsts.{fault_next, fault_stays, commits_more, commits_stay, commits_after}
 
 pub some_none : {X : Type 0} (x : X) → Some x ≡ None → ⊥
@@ -88,9 +88,8 @@ told_of_part X (SizeOf got wanted) part rest log is h = ap (λ (o : Option Decod
 told_of_part X Memory part rest log is h = tt
 
 -- an entry that can be decoded after the log's part can be decoded by its decoder
-pub fits_next : (log part rest : List LogEntry) (e : LogEntry) (state : DecoderState) (transactions : List TransactionState) → IsDecodable log → log ≡ part ++ e ∷ rest → IsSent state transactions part → Fits (found_of (open_at state.table (xid_of e))) e
-fits_next log part rest e state transactions can is sent =
-    subst (λ (found : Found). Fits found e) (λ i table value_id. sym (found_is part e state.table (sent.decodes.table sent.sound) table value_id) i) (can.fits part e rest is)
+pub fits_next : (log part rest : List LogEntry) (e : LogEntry) (state : DecoderState) (transactions : List TransactionState) → IsDecodable log → log ≡ part ++ e ∷ rest → IsSent state transactions part → FitsFed state e
+fits_next log part rest e state transactions can is sent = (part, sent.decodes, can.fits part e rest is)
 
 pub count_next : (log part rest : List LogEntry) (state : DecoderState) → IsDecodable log → log ≡ part ++ rest → Decodes state part → state.given + 1 < 2 ^ 32
 count_next log part rest state can is decodes = omega (arith, can.count, decodes.given, count_within part rest, ap (λ (l : List LogEntry). length (commits l)) is)

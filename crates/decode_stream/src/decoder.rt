@@ -4,8 +4,8 @@ ghost use Rattle.std.specs.Prelude.{◌≡◌, ◌≢◌, ◌+◌, ◌<◌, ◌^
 ghost use Rattle.std.specs.List.{All};
 ghost use Rattle.stream_wire.specs.Spelling.{IsInRange};
 ghost use Rattle.change_log.specs.declared.entry.LogEntry.{LogEntry};
-ghost use Rattle.decode_stream.specs.Decoding.{xid_of};
-ghost use Rattle.decode_stream.specs.States.{Decodes, Feeds, Fits, Stays, found_of, next_of, open_at};
+ghost use Rattle.decode_stream.specs.Growing.{FitsFed};
+ghost use Rattle.decode_stream.specs.States.{Decodes, Feeds, Stays, next_of};
 ghost use Rattle.decode_stream.specs.Steps.{given_after, lasting};
 
 use crate::fault::DecodeFault;
@@ -58,7 +58,7 @@ impl Decoder {
     /// Takes the next entry, and answers the transaction that it commits, if that has a change.
     ///
     /// As long as there was no fault, fewer than 2^32 - 1 transactions were given before, and the
-    /// entry is within its ranges: a table from 1 to 16; 1 to 8 cells, of at most 65,536 bytes where
+    /// entry is within its ranges after those that were fed: a table from 1 to 16; 1 to 8 cells, of at most 65,536 bytes where
     /// inline, and with pointers that say at most 65,536 bytes; and with a chunk, at most 2^32 - 1
     /// chunks and bytes of its value, of those that its transaction gathered since its last change of
     /// a row. After a fault nothing is asked.
@@ -69,7 +69,7 @@ impl Decoder {
     /// before, and the entry can be fed again.
     pub fn feed(&mut self, e: &LogEntry) -> Result<Option<Transaction>, DecodeFault>
         requires given { self.old.fault ≡ None → self.old.given + 1 < 2 ^ 32 }
-        requires fits { self.old.fault ≡ None → Fits (found_of (open_at self.old.table (xid_of e.now))) e.now }
+        requires fits { self.old.fault ≡ None → FitsFed self.old e.now }
         ensures fed { (log : List LogEntry) → Decodes self.old log → Feeds log e.now self.new result }
         ensures memory { Stays self.old self.new result }
         ensures again { IfSome self.old.fault (λ fault. (result ≡ Err fault) × (self.new ≡ self.old)) }

@@ -9,6 +9,7 @@
 mod decoder;
 mod fault;
 mod gathered;
+pub mod laws;
 mod open;
 mod row;
 mod split;

@@ -2,8 +2,9 @@
 
 ghost use Rattle.std.specs.Prelude.{◌≡◌, ◌+◌, ◌<◌, ◌^◌, ◌++◌, ◌∷◌, [], List, OnOk};
 ghost use Rattle.change_log.specs.declared.entry.LogEntry.{LogEntry};
-ghost use Rattle.decode_stream.specs.Decoding.{first_fault, xid_of};
-ghost use Rattle.decode_stream.specs.States.{Decodes, Fits, IsDecodable, IsDecoded, found_of, open_at};
+ghost use Rattle.decode_stream.specs.Decoding.{first_fault};
+ghost use Rattle.decode_stream.specs.Growing.{FitsFed};
+ghost use Rattle.decode_stream.specs.States.{Decodes, IsDecodable, IsDecoded};
 ghost use Rattle.decode_stream.specs.Steps.{IsSent, Tells};
 
 use crate::decoder::Decoder;
@@ -20,7 +21,7 @@ fn send_next(
     e: &LogEntry,
 ) -> Result<(), DecodeFault>
     requires given { decoder.old.given + 1 < 2 ^ 32 }
-    requires fits { Fits (found_of (open_at decoder.old.table (xid_of e.now))) e.now }
+    requires fits { FitsFed decoder.old e.now }
     ensures ok { OnOk result ((log : List LogEntry) → IsSent decoder.old sent.old log → IsSent decoder.new sent.new (log ++ e.now ∷ [])) }
     ensures fault { (log : List LogEntry) → Decodes decoder.old log → Tells (first_fault (log ++ e.now ∷ [])) result }
 {

@@ -5,3 +5,4 @@ pub mod Loop
 pub mod Messages
 pub mod Only
 pub mod Parts
+pub mod Transactions

@@ -5,12 +5,13 @@ use Rattle.decode_stream.specs.Decoding.{first_fault, xid_of}
 use Rattle.decode_stream.specs.States.{DecoderState, OpenList, AreOpen, Fits, found_of, open_at, next_of}
 use Rattle.decode_stream.specs.Steps.{given_after}
 use Rattle.decode_stream.proofs.Firsts.{fed, feeds_again, feeds_refused}
+use Rattle.decode_stream.proofs.Growing.{fits_fed}
 use Rattle.decode_stream.proofs.decoder.Decoder.feed.Goals as goal
 
 pub take-requires : goal.take-requires
 take-requires c =
-    subst (λ (state : DecoderState). Fits (found_of (open_at state.table (xid_of c.args.e.now))) c.args.e.now) (sym c.self.view_is)
-    (c.requires.fits (ap (λ (state : DecoderState). state.fault) (sym c.self.view_is) ∙ c.in_default.is))
+    let none = ap (λ (state : DecoderState). state.fault) (sym c.self.view_is) ∙ c.in_default.is in
+    subst (λ (state : DecoderState). Fits (found_of (open_at state.table (xid_of c.args.e.now))) c.args.e.now) (sym c.self.view_is) (fits_fed c.args.self.now c.args.e.now none (c.requires.fits none))
 
 pub give-requires-clause-given : goal.give-requires-clause-given
 give-requires-clause-given c =

@@ -4,11 +4,13 @@ ghost use Rattle.std.specs.Prelude.{◌≡◌, ◌<◌, ◌≤◌, ◌==◌, ◌
 ghost use Rattle.std.specs.List.{after_first, before_first, position_from, position_or_len};
 ghost use Rattle.script_words.specs.Lines.{content, is_blank, is_solid, lines, without_return, words};
 
+use memchr::{memchr, memchr2};
+
 // Where a byte first stands, if it is there.
 fn find_byte(bytes: &[u8], byte: u8) -> Option<usize>
     ensures { result ≡ position_from (λ b. b == byte) 0 bytes.now }
 {
-    bytes.iter().position(|b| *b == byte)
+    memchr(byte, bytes)
 }
 
 // Where a byte first stands, or the number of bytes.
@@ -64,7 +66,7 @@ pub fn content_of(line: &[u8]) -> &[u8]
 fn find_blank(text: &[u8]) -> Option<usize>
     ensures { result ≡ position_from is_blank 0 text.now }
 {
-    text.iter().position(|b| *b == b' ' || *b == b'\t')
+    memchr2(b' ', b'\t', text)
 }
 
 // Where the first blank stands, or the number of bytes.

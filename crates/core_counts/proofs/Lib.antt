@@ -1,0 +1,9 @@
+pub mod Sums
+pub mod Sizes
+pub mod Reading
+pub mod Writing
+pub mod Falling
+pub mod Sets
+pub mod Values
+pub mod Beginning
+pub mod Shorts

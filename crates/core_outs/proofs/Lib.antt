@@ -1,0 +1,12 @@
+pub mod Widths
+pub mod Saves
+pub mod Versions
+pub mod Frames
+pub mod Commits
+pub mod Begun
+pub mod Changes
+pub mod Quiet
+pub mod Moments
+pub mod Steps
+pub mod Draws
+pub mod Proved

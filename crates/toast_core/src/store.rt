@@ -12,6 +12,7 @@ ghost use Rattle.core_state.specs.Moves.{Falls, Moved, OthersStay, StandsOn, und
 ghost use Rattle.core_state.specs.Stands.{Stands};
 ghost use Rattle.core_state.specs.State.{IsSession, schemas_of, seat_of};
 ghost use Rattle.core_state.specs.declared.seat.Job.TheVariants as jobs;
+ghost use Rattle.toast_core.specs.Cores.{IsCore};
 
 use crate::events::{advance, submit};
 use change_log::Log;
@@ -47,6 +48,7 @@ impl Core {
         ensures core { IfOk result (λ core. core ≡ first_core setup.now.schemas setup.now.low setup.now.high setup.now.sessions) }
         ensures schemas { IfOk result (λ core. schemas_of core.tables ≡ setup.now.schemas) }
         ensures stands { IfOk result (λ core. Stands core (first_state setup.now.sessions) (replicate setup.now.sessions None)) }
+        ensures kept { IfOk result (λ core. IsCore core) }
     {
         let parts = CoreParts::new(alloc, setup)?;
         Ok(Core { parts })
@@ -72,6 +74,7 @@ impl Core {
         ensures wanted { OnErr result (takes_no_memory command.now ≡ false) }
 
         ensures others { OthersStay self.old session self.new }
+        ensures kept { IsCore self.new }
     {
         submit(&mut self.parts, session, command)?;
         Ok(())
@@ -85,6 +88,9 @@ impl Core {
     pub fn advance(&mut self, session: u16) -> Result<Advance, AllocError>
         requires session { IsSession self.old.seats session }
 
+        // What is true of every core.
+        ensures sound { IsCore self.old }
+
         // The line that is due, what it is to the plain store, and that less is left.
         ensures event { IfOk result (Event self.old session self.new) }
         ensures moved { IfOk result (Moved self.old session self.new) }
@@ -96,6 +102,7 @@ impl Core {
         ensures wanted { OnErr result (wants_none (seat_of self.old session).job ≡ false) }
 
         ensures others { OthersStay self.old session self.new }
+        ensures kept { IsCore self.new }
     {
         let advance = advance(&mut self.parts, session)?;
         Ok(advance)

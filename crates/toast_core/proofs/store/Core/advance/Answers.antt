@@ -38,3 +38,9 @@ pub returns-clause-others : goal.returns-clause-others
 returns-clause-others c =
     let at = sound_at c.args.self.now c.args.session c.requires.session (subst IsCore c.self.view_is c.self.invariant) in
     advances_keep.others c.args.self.now c.args.session c.advance.new.core c.in_ok-advance.advance at (subst (λ (v : CoreState). IsAdvanced v c.args.session c.advance.new.core c.in_ok-advance.advance) c.self.view_is c.in_ok-advance.ensures.ok)
+
+pub returns-clause-sound : goal.returns-clause-sound
+returns-clause-sound c = subst IsCore c.self.view_is c.self.invariant
+
+pub returns-in_err-advance-clause-sound : goal.returns-in_err-advance-clause-sound
+returns-in_err-advance-clause-sound c = subst IsCore c.self.view_is c.self.invariant

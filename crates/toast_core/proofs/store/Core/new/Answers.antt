@@ -21,3 +21,8 @@ pub returns-clause-stands : goal.returns-clause-stands
 returns-clause-stands c =
     let setup = c.args.setup.now in
     subst (λ (v : CoreState). Stands v (first_state setup.sessions) (replicate setup.sessions None)) (sym c.in_ok-parts.ensures.core) (first_stands setup.schemas setup.low setup.high setup.sessions)
+
+pub returns-clause-kept : goal.returns-clause-kept
+returns-clause-kept c =
+    let setup = c.args.setup.now in
+    first_kept setup.schemas setup.low setup.high setup.sessions c.in_ok-parts.parts c.requires.ids.1 c.requires.tables c.requires.sessions c.in_ok-parts.ensures.core c.in_ok-parts.ensures.made

@@ -18,8 +18,7 @@ use Rattle.core_state.specs.declared.seat.Job.{Job}
 use Rattle.core_state.specs.declared.seat.Job.TheVariants as jobs
 use Rattle.core_state.specs.declared.seat.Seat.{Seat}
 use Rattle.core_state.specs.declared.seat.State.{State}
-use Rattle.session_shell.specs.Hubs.{is_at_save, is_saving}
-use Rattle.session_shell.specs.Turns.{is_one_step}
+use Rattle.session_shell.specs.Hubs.{is_at_save, is_one_step, is_saving}
 
 -- a session is there once it has used a table
 session_used : (c : CoreState) (s t : ℕ) → IsSession c.seats s → IsSession (after_use c s t).seats s

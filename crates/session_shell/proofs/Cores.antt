@@ -12,7 +12,8 @@ use Rattle.command_set.specs.declared.Reply.TheVariants as replies
 use Rattle.core_state.proofs.Seats.{session_written}
 use Rattle.core_state.specs.Commands.{IsFitting}
 use Rattle.core_state.specs.Events.{Event, IsDue, left}
-use Rattle.core_state.specs.Lines.{after_submit}
+use Rattle.core_state.specs.Lines.{after_failing, after_submit}
+use Rattle.core_events.specs.Advanced.{FailsBy}
 use Rattle.core_state.specs.Moves.{Falls, Goes, Moved, MovedBy, Runs, Says, StandsOn, Stays}
 use Rattle.core_state.specs.Stands.{Stands}
 use Rattle.core_state.specs.State.{CoreState, IsSession, is_past_moment, schemas_of, seat_of}
@@ -21,7 +22,9 @@ use Rattle.core_state.specs.declared.advance.Advance.TheVariants as advances
 use Rattle.core_state.specs.declared.seat.Job.{Job}
 use Rattle.core_state.specs.declared.seat.Job.TheVariants as jobs
 use Rattle.session_shell.specs.Hubs.{is_read, is_saving}
-use Rattle.session_shell.specs.Steps.{BeginsBy, IsGranted, IsStood, MakesFirst, StepsLater, ended_by}
+use Rattle.session_shell.specs.Steps.{BeginsBy, HasMade, IsGranted, IsStood, LaterMade, StepsLater, end_by, ended_by}
+use Rattle.toast_core.specs.Cores.{IsCore}
+use Rattle.session_shell.specs.Turns.{EventFirst, MakesFirst}
 use Rattle.session_shell.specs.declared.steps.Cut.TheVariants as cuts
 use Rattle.session_shell.specs.declared.steps.Later.TheVariants as later
 use Rattle.session_shell.proofs.Answered.{said_at_once}
@@ -34,10 +37,11 @@ runs_on old mid new s command advance there is on moved m replies within stands 
     let by : Runs mid s command new advance = subst (λ (job : Job). MovedBy job mid s new advance) (ap (λ (c : CoreState). (seat_of c s).job) is ∙ seat_submitted old s command there) moved.by in
     subst (λ (schemas : List TableSchema). Stands new (answer schemas m s command).after (slice_set replies (s - 1) (Some (answer schemas m s command).reply)) × Says command (seat_of new s).job advance (answer schemas m s command).reply) (ap (λ (c : CoreState). schemas_of c.tables) is) (by m replies within (on.stands m replies stands))
 
-pub began : (old mid new : CoreState) (s : ℕ) (command : Command) (advance : Advance) → IsSession old.seats s → mid ≡ after_submit old s command → StandsOn old mid → Moved mid s new advance → Event mid s new advance → MakesFirst old s command new advance
-began old mid new s command advance there is on moved event = record {
+pub began : (old mid new : CoreState) (s : ℕ) (command : Command) (advance : Advance) → IsSession old.seats s → mid ≡ after_submit old s command → StandsOn old mid → Moved mid s new advance → IsCore mid → Event mid s new advance → MakesFirst old s command new advance
+began old mid new s command advance there is on moved sound event = record {
   runs = runs_on old mid new s command advance there is on moved;
-  event = subst (λ (c : CoreState). Event c s new advance) is event;
+  stands = subst (λ (c : CoreState). StandsOn old c) is on;
+  event = record { sound = subst IsCore is sound; event = subst (λ (c : CoreState). Event c s new advance) is event };
 }
 
 -- the session is there after the submission
@@ -62,11 +66,22 @@ done_first old new s command advance reply e made = record {
 pub more_first : (old new : CoreState) (s : ℕ) (command : Command) (advance : Advance) (kept : Option Reply) → IsSession old.seats s → IsFitting (schemas_of old.tables) command → advance ≡ advances.More → kept ≡ (if is_read command then None else Some replies.Okay) → MakesFirst old s command new advance
     → BeginsBy old s command new (record { kind = kinds.Run; reply = kept; goes_on = true })
 more_first old new s command advance kept there fits e said made =
-    let from = goes_on_from old new s command there (session_written old.seats s s _ there) (subst (Event (after_submit old s command) s new) e made.event) in
+    let from = goes_on_from old new s command there (session_written old.seats s s _ there) (subst (Event (after_submit old s command) s new) e made.event.event) in
     record {
       by = λ m replies within stands. let r = subst (Runs old s command new) e made.runs m replies within stands in
           (r.0, record { for_rows = r.1.0; granted = r.1.1; past = r.1.2; steps = from.steps; values = from.values; said = said ∙ said_at_once (schemas_of old.tables) m s command fits r.1.1 });
     }
+
+-- the event of a command's first step
+pub done_event : (old new : CoreState) (s : ℕ) (command : Command) (advance : Advance) (reply : Reply) → advance ≡ advances.Done reply → MakesFirst old s command new advance → EventFirst kinds.Run (end_by false) old s command new
+done_event old new s command advance reply e made = (reply, subst (MakesFirst old s command new) e made)
+
+pub more_event : (old new : CoreState) (s : ℕ) (command : Command) (advance : Advance) → advance ≡ advances.More → MakesFirst old s command new advance → EventFirst kinds.Run (end_by true) old s command new
+more_event old new s command advance e made = subst (MakesFirst old s command new) e made
+
+-- want of memory in the event after the submission
+pub failed_on : (old mid new : CoreState) (s : ℕ) (command : Command) → mid ≡ after_submit old s command → FailsBy mid s new → (new ≡ after_failing old s) ⊎ FailsBy (after_submit old s command) s new
+failed_on old mid new s command is fails = inr (subst (λ (c : CoreState). FailsBy c s new) is fails)
 
 -- a step that goes on, or is over, without a refusal
 more_stays : (job : Job) (old new : CoreState) (s : ℕ) → is_past_moment job ≡ true → MovedBy job old s new advances.More → Stays old s new advances.More
@@ -208,3 +223,17 @@ ended_later old new s advance reply e past moved event granted = elim (said_case
 
 pub wanted_later : (old new : CoreState) (s : ℕ) → Falls old s new → StepsLater old s new (later.Short cuts.Memory)
 wanted_later old new s falls = (falls, tt)
+
+-- the event of a later step
+pub going_event : (old new : CoreState) (s : ℕ) (advance : Advance) → advance ≡ advances.More → IsCore old → Event old s new advance → LaterMade old s new later.More
+going_event old new s advance e sound event = record { sound = sound; event = subst (Event old s new) e event }
+
+pub ended_event : (old new : CoreState) (s : ℕ) (advance : Advance) (reply : Reply) → advance ≡ advances.Done reply → IsCore old → Event old s new advance → LaterMade old s new (ended_by reply)
+ended_event old new s advance reply e sound event = elim (said_cases reply) [
+  | inl is ↦ subst (λ (r : Reply). LaterMade old s new (ended_by r)) (sym is) (record { sound = sound; event = subst (Event old s new) (e ∙ ap advances.Done is) event })
+  | inr other ↦ subst (LaterMade old s new) (sym (ended_other reply other)) (record { reply = reply; other = other; event = record { sound = sound; event = subst (Event old s new) e event } })
+]
+
+-- a first step that was made
+pub has_made : (old new : CoreState) (s : ℕ) (command : Command) (advance : Advance) → MakesFirst old s command new advance → HasMade old s command new
+has_made old new s command advance makes = record { advance = advance; makes = makes }

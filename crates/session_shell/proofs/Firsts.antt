@@ -30,8 +30,7 @@ use Rattle.core_state.specs.Stands.{pending_of, Stands}
 use Rattle.core_state.specs.State.{CoreState, seat_of, nobody, is_past_moment}
 use Rattle.session_shell.specs.declared.hub.KeptLine.{KeptLine}
 use Rattle.session_shell.specs.declared.hub.Progress.{Progress}
-use Rattle.session_shell.specs.Hubs.{Keeps, SessionIs, IsBusy, IsBusyBy, IsLine, IsLastEntry, replies_of, commands_of, progress_of, kept_of}
-use Rattle.session_shell.specs.Turns.{is_one_step}
+use Rattle.session_shell.specs.Hubs.{Keeps, SessionIs, IsBusy, IsBusyBy, IsLine, IsLastEntry, replies_of, commands_of, is_one_step, progress_of, kept_of}
 use Rattle.session_shell.specs.Steps.{StepsFirst, SaysFirst}
 use Rattle.session_shell.proofs.Answered.{not_started}
 use Rattle.session_shell.proofs.Runs.{legal_push, may_first, run_moment, run_want}
@@ -92,6 +91,7 @@ session_stays script journal lines e line t told job place other other' h = reco
   below = below_stays lines line t told.begun other' h.below;
   line = λ one. line_stays lines line place.line t told other' (h.line one);
   entry = λ one. entry_stays journal e place.entry t told.begun other (h.entry one);
+  kind = λ kind last. get_push_left journal e place.entry _ (h.kind kind last);
 }
 
 -- a session's own first entry and line
@@ -128,6 +128,7 @@ session_begins script journal lines s n begun kind reply said job next within be
         there = get_push_at journal e;
         last = λ k x there session. omega (arith, slice_get_within _ k x there, length-append journal (e ∷ []));
       };
+      kind = λ own last. subst (λ (k : Kind). slice_get (journal ++ e ∷ []) (length journal) ≡ Some (record { session = s; number = n; kind = k })) (same_Some kind own last) (get_push_at journal e);
     }
 
 number_within : (script : Script) (s n : ℕ) (command : Command) → 1 ≤ n → command_at script s n ≡ Some command → n ≤ length (commands_of script s)
@@ -238,7 +239,7 @@ first_by kinds.Run true kept_reply script core core' journal kept ps run s n com
     let step = subst (λ (schemas : List TableSchema). Stands core' (answer schemas run.plain s command).after (slice_set (replies_of run) (s - 1) (Some (answer schemas run.plain s command).reply)) × SaysFirst true command (seat_of core' s).job kept_reply (answer schemas run.plain s command).reply) h.schemas (steps run.plain (replies_of run) (omega (arith, length-map run.told (λ (t : Told). t.reply), h.told)) h.stands) in
     let said = (answer script.schemas run.plain s command).reply in
     let line : Line = record { session = s; number = n; reply = said } in
-    let busy : IsBusy script s (record { begun = n; last = Some kinds.Run; reply = Some said }) (seat_of core' s).job = record { begun = omega (arith, next); last = refl; reply = said; answered = refl; granted = step.1.granted; command = command; there = there; for_rows = step.1.for_rows; values = step.1.values } in
+    let busy : IsBusy script s (record { begun = n; last = Some kinds.Run; reply = Some said }) (seat_of core' s).job = record { begun = omega (arith, next); last = refl; reply = said; answered = refl; granted = step.1.granted; command = command; there = there; for_rows = step.1.for_rows; steps = step.1.steps; values = step.1.values } in
     let legal = legal_push script journal e h.legal (subst (λ (r : Run). may_follow script r e ≡ true) is (may_first script run s n kinds.Run command next (h.each s one within).quiet there refl)) in
     record {
       reply = Some said;

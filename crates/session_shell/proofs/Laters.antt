@@ -1,12 +1,12 @@
 -- The later steps of a command.
-use Rattle.std.proofs.Common.{◌≡◌, ◌≢◌, ◌<◌, ◌≤◌, ◌-◌, ◌*◌, inl, inr, ℕ, Bool, true, false, List, [], ◌∷◌, ◌++◌, Option, Some, None, length, get_or, slice_get, slice_set, refl, sym, ap, ◌∙◌, subst, arith, length-append, length-set, eq-eqb, append-nil}
+use Rattle.std.proofs.Common.{◌≡◌, ◌≢◌, ◌<◌, ◌≤◌, ◌+◌, ◌-◌, ◌*◌, inl, inr, ℕ, Bool, true, false, List, [], ◌∷◌, ◌++◌, Option, Some, None, length, get_or, slice_get, slice_set, refl, sym, ap, ◌∙◌, subst, arith, length-append, length-set, eq-eqb, append-nil}
 use Rattle.std.specs.Prelude.{◌==◌, ◌&&◌, slice_index_or, if◌then◌else◌}
 use Rattle.std.specs.Option.{option_map, unwrap_or}
 use Rattle.std.proofs.lemmas.Bool.{cases_eq}
 use Rattle.std.proofs.lemmas.Bool.Decides.{nat_tests}
 use Rattle.std.proofs.lemmas.Option.{slice_get_within, same_Some, get_or_from_slice_get, slice_get-map}
 use Rattle.std.proofs.lemmas.List.{map-set, length-map, get_or_read}
-use Rattle.list_facts.proofs.Changed.{get_set_same, get_set_other, get_push_at, set_same}
+use Rattle.list_facts.proofs.Changed.{get_set_same, get_set_other, get_push_at, get_push_left, set_same}
 use Rattle.command_set.specs.Plain.{nth}
 use Rattle.command_set.specs.declared.journal.Line.{Line}
 use Rattle.command_set.specs.declared.journal.Run.{Run}
@@ -17,7 +17,8 @@ use Rattle.command_set.specs.declared.Kind.{Kind}
 use Rattle.command_set.specs.declared.Kind.TheVariants as kinds
 use Rattle.command_set.specs.declared.Reply.{Reply}
 use Rattle.command_set.specs.Answers.{with_failure}
-use Rattle.command_set.specs.Journals.{told_of, told_more, untold, corrected, with_reply, run_of, is_run, is_started, may_follow}
+use Rattle.command_set.specs.Journals.{told_of, told_more, untold, corrected, with_reply, run_of, command_at, is_run, is_started, may_follow}
+use Rattle.core_state.specs.declared.advance.Advance.TheVariants as advances
 use Rattle.core_state.specs.declared.seat.Job.{Job}
 use Rattle.core_state.specs.declared.seat.Job.TheVariants as jobs
 use Rattle.core_state.specs.declared.seat.Seat.{Seat}
@@ -28,12 +29,12 @@ use Rattle.session_shell.specs.declared.hub.KeptLine.{KeptLine}
 use Rattle.session_shell.specs.declared.hub.Progress.{Progress}
 use Rattle.session_shell.specs.declared.hub.Turn.{Turn}
 use Rattle.session_shell.specs.declared.hub.Turn.TheVariants as turns
-use Rattle.session_shell.specs.Hubs.{HubState, IsHub, Keeps, SessionIs, IsBusy, IsBusyBy, IsLine, IsLastEntry, is_saving, replies_of, progress_of, at_start, kept_of}
+use Rattle.session_shell.specs.Hubs.{HubState, IsHub, Keeps, SessionIs, IsBusy, IsBusyBy, IsLine, IsLastEntry, LastIsRun, TellsHub, is_saving, replies_of, progress_of, at_start, kept_of}
 use Rattle.session_shell.specs.Lines.{no_line, with_reply as replied}
 use Rattle.session_shell.specs.Steps.{StaysFor, EndsWith, GoesOnLater, IsGranted, MayEnd, kind_of, said_of}
 use Rattle.session_shell.specs.declared.steps.Cut.{Cut}
 use Rattle.session_shell.specs.declared.steps.Cut.TheVariants as cuts
-use Rattle.session_shell.specs.Turns.{TurnMade, Nothing, Ended, end_of, place_after, IsTurn, MakesTurn, Ran, turn_made}
+use Rattle.session_shell.specs.Turns.{TurnMade, Nothing, Ended, EventBy, EventCut, EventLast, EventLater, MakesEvent, end_of, place_after, IsTurn, MakesTurn, Ran, turn_made}
 use Rattle.script_text.specs.Scripts.{command_count}
 use Rattle.session_shell.proofs.Runs.{and_intro, legal_push, may_second, may_short, run_push, run_short, short_no_run}
 use Rattle.session_shell.proofs.Frames.{told_here, told_there, seat_there, progress_here, progress_there, one_second}
@@ -48,6 +49,29 @@ busy_of script s told (jobs.Submitted command) past busy = absurd (cc)
 busy_of script s told (jobs.Reading table snapshot read) past busy = busy
 busy_of script s told (jobs.Writing table write) past busy = busy
 
+-- while a command is under way, its session's last entry is its granted Run
+pub last_run : (hub : HubState) (ps : List Progress) (s : ℕ) → IsHub hub ps → 1 ≤ s → s ≤ length hub.script.sessions → is_past_moment (seat_of hub.core s).job ≡ true → LastIsRun hub s
+last_run hub ps s h one within past =
+    let told = told_of (run_of hub.script hub.journal) s in
+    let own = h.each s one within in
+    let busy = busy_of hub.script s told (seat_of hub.core s).job past own.busy in
+    record {
+      at = (progress_of ps s).entry;
+      number = told.begun;
+      there = own.kind kinds.Run busy.last;
+      last = (own.entry busy.begun).last;
+      reply = busy.reply;
+      answered = busy.answered;
+      granted = busy.granted;
+      command = busy.command;
+      is = busy.there;
+      steps = busy.steps;
+    }
+
+-- what a hub's journal tells of it
+pub tells : (hub : HubState) (ps : List Progress) → IsHub hub ps → TellsHub hub
+tells hub ps h = record { stands = h.stands; legal = h.legal; lines = h.lines }
+
 -- the same with another job
 busy_with : (script : Script) (s : ℕ) (told : Told) (job job' : Job) → (is_saving job' ≡ true → is_saving job ≡ true) → IsBusy script s told job → IsBusy script s told job'
 busy_with script s told job job' before busy = record {
@@ -59,6 +83,7 @@ busy_with script s told job job' before busy = record {
   command = busy.command;
   there = busy.there;
   for_rows = busy.for_rows;
+  steps = busy.steps;
   values = λ saves. busy.values (before saves);
 }
 
@@ -86,6 +111,7 @@ with_job script journal lines s told job job' place busy h = record {
   below = h.below;
   line = h.line;
   entry = h.entry;
+  kind = h.kind;
 }
 
 -- what the others' lines say stays
@@ -258,6 +284,7 @@ session_corrected script journal lines e reply t told job place other h = record
     only = λ k l there session number. let w = was e reply lines k l there in own.only k w.line w.there (sym w.session ∙ session) (sym w.number ∙ number);
   };
   entry = λ one. entry_stays journal e place.entry t told.begun other (h.entry one);
+  kind = λ kind last. get_push_left journal e place.entry _ (h.kind kind last);
 }
 
 never_run : (cut : Cut) → kind_of cut ≡ kinds.Run → ⊥
@@ -288,6 +315,7 @@ session_short script core journal kept run s at cut job place h own job' idle =
         there = get_push_at journal e;
         last = λ k x there session. omega (arith, slice_get_within _ k x there, length-append journal (e ∷ []));
       };
+      kind = λ own last. subst (λ (k : Kind). slice_get (journal ++ e ∷ []) (length journal) ≡ Some (record { session = s; number = (told_of run s).begun; kind = k })) (same_Some (kind_of cut) own last) (get_push_at journal e);
     }
 
 map_twice : (view : Line → KeptLine) (f : Line → Line) (o : Option Line) → option_map view (option_map f o) ≡ option_map (λ line. view (f line)) o
@@ -356,11 +384,16 @@ keeps_short script core core' journal kept ps run s at cut h is one within busy 
 abbrev pub with_core : HubState → CoreState → List KeptLine → HubState
 with_core old core kept = record { script = old.script; core = core; journal = old.journal; kept = kept }
 
+-- the event of a turn that goes on with a command
+later_event : (old : HubState) (core : CoreState) (s : ℕ) (t : TurnMade) → is_past_moment (seat_of old.core s).job ≡ true → EventLater t.entry t.end old.core t.session core →
+    EventBy (is_past_moment (seat_of old.core s).job) (command_at old.script t.session ((told_of (run_of old.script old.journal) s).begun + 1)) t old.core core
+later_event old core s t past event = subst (λ (u : Bool). EventBy u (command_at old.script t.session ((told_of (run_of old.script old.journal) s).begun + 1)) t old.core core) (sym past) event
+
 -- one later turn without an entry
 ran_later : (old : HubState) (core : CoreState) (kept : List KeptLine) (ps : List Progress) (s : ℕ) (turn : Turn) → IsHub old ps → 1 ≤ s → s ≤ length old.script.sessions → is_past_moment (seat_of old.core s).job ≡ true → OthersStay old.core s core →
-    (end_of turn ≡ Nothing → ⊥) → record { begun = (told_of (run_of old.script old.journal) s).begun; under_way = is_past_moment (seat_of core s).job } ≡ place_after (record { begun = (told_of (run_of old.script old.journal) s).begun; under_way = true }) (end_of turn) →
+    (end_of turn ≡ Nothing → ⊥) → record { begun = (told_of (run_of old.script old.journal) s).begun; under_way = is_past_moment (seat_of core s).job } ≡ place_after (record { begun = (told_of (run_of old.script old.journal) s).begun; under_way = true }) (end_of turn) → EventLater None (end_of turn) old.core s core →
     Ran old (with_core old core kept) (turn_made s None turn ∷ [])
-ran_later old core kept ps s turn h one within past others made place =
+ran_later old core kept ps s turn h one within past others made place event =
     let run = run_of old.script old.journal in
     let b = (told_of run s).begun in
     let t : TurnMade = turn_made s None turn in
@@ -369,20 +402,21 @@ ran_later old core kept ps s turn h one within past others made place =
     (sym (set_same run.told (s - 1) (told_of run s) (told_get run.told s one (omega (arith, h.told)))))
     others
     (place ∙ sym (ap (λ (u : Bool). place_after (record { begun = b; under_way = u }) (end_of turn)) past))
+    (later_event old core s t past event)
 
-pub made_more : (old : HubState) (core : CoreState) (ps : List Progress) (s : ℕ) → IsHub old ps → 1 ≤ s → s ≤ length old.script.sessions → is_past_moment (seat_of old.core s).job ≡ true → OthersStay old.core s core → is_past_moment (seat_of core s).job ≡ true → MakesTurn old s (with_core old core old.kept) turns.More
-made_more old core ps s h one within past others past' = record {
+pub made_more : (old : HubState) (core : CoreState) (ps : List Progress) (s : ℕ) → IsHub old ps → 1 ≤ s → s ≤ length old.script.sessions → is_past_moment (seat_of old.core s).job ≡ true → OthersStay old.core s core → is_past_moment (seat_of core s).job ≡ true → MakesEvent old.core s core advances.More → MakesTurn old s (with_core old core old.kept) turns.More
+made_more old core ps s h one within past others past' event = record {
   entry = None;
-  ran = ran_later old core old.kept ps s turns.More h one within past others (λ e. cc) (ap (λ (u : Bool). record { begun = (told_of (run_of old.script old.journal) s).begun; under_way = u }) past');
+  ran = ran_later old core old.kept ps s turns.More h one within past others (λ e. cc) (ap (λ (u : Bool). record { begun = (told_of (run_of old.script old.journal) s).begun; under_way = u }) past') event;
   named = tt;
 }
 
-pub made_done : (old : HubState) (core : CoreState) (kept : List KeptLine) (ps : List Progress) (s at : ℕ) → IsHub old ps → 1 ≤ s → s ≤ length old.script.sessions → is_past_moment (seat_of old.core s).job ≡ true → OthersStay old.core s core → (seat_of core s).job ≡ jobs.Idle → (progress_of ps s).entry ≡ at → MakesTurn old s (with_core old core kept) (turns.Ended at)
-made_done old core kept ps s at h one within past others idle is =
+pub made_done : (old : HubState) (core : CoreState) (kept : List KeptLine) (ps : List Progress) (s at : ℕ) → IsHub old ps → 1 ≤ s → s ≤ length old.script.sessions → is_past_moment (seat_of old.core s).job ≡ true → OthersStay old.core s core → (seat_of core s).job ≡ jobs.Idle → (progress_of ps s).entry ≡ at → EventLast old.core s core → MakesTurn old s (with_core old core kept) (turns.Ended at)
+made_done old core kept ps s at h one within past others idle is event =
     let busy = busy_of old.script s (told_of (run_of old.script old.journal) s) (seat_of old.core s).job past (h.each s one within).busy in
     record {
       entry = None;
-      ran = ran_later old core kept ps s (turns.Ended at) h one within past others (λ e. cc) (ap (λ (j : Job). record { begun = (told_of (run_of old.script old.journal) s).begun; under_way = is_past_moment j }) idle);
+      ran = ran_later old core kept ps s (turns.Ended at) h one within past others (λ e. cc) (ap (λ (j : Job). record { begun = (told_of (run_of old.script old.journal) s).begun; under_way = is_past_moment j }) idle) event;
       named = subst (λ (k : ℕ). IsLastEntry old.journal k s (told_of (run_of old.script old.journal) s).begun) is ((h.each s one within).entry busy.begun);
     }
 
@@ -400,8 +434,8 @@ pub record HubShort (old : HubState) (core : CoreState) (ps : List Progress) (s 
   pub keeps : IsHub (shortened old core s cut at) (slice_set ps (s - 1) (record { begun = (told_of (run_of old.script old.journal) s).begun; entry = length old.journal; line = at }))
   pub made : MakesTurn old s (shortened old core s cut at) (turns.Ended (length old.journal))
 
-pub hub_short : (old : HubState) (core : CoreState) (ps : List Progress) (s : ℕ) (cut : Cut) (at : ℕ) → IsHub old ps → 1 ≤ s → s ≤ length old.script.sessions → is_past_moment (seat_of old.core s).job ≡ true → (progress_of ps s).line ≡ at → Falls old.core s core → MayEnd cut (seat_of old.core s).job → OthersStay old.core s core → HubShort old core ps s cut at
-hub_short old core ps s cut at h one within past is falls ends others =
+pub hub_short : (old : HubState) (core : CoreState) (ps : List Progress) (s : ℕ) (cut : Cut) (at : ℕ) → IsHub old ps → 1 ≤ s → s ≤ length old.script.sessions → is_past_moment (seat_of old.core s).job ≡ true → (progress_of ps s).line ≡ at → Falls old.core s core → MayEnd cut (seat_of old.core s).job → EventCut (kind_of cut) old.core s core → OthersStay old.core s core → HubShort old core ps s cut at
+hub_short old core ps s cut at h one within past is falls ends event others =
     let run = run_of old.script old.journal in
     let b = (told_of run s).begun in
     let e : JournalEntry = record { session = s; number = b; kind = kind_of cut } in
@@ -426,7 +460,8 @@ hub_short old core ps s cut at h one within past is falls ends others =
               entry = λ x is. let same : e ≡ x = same_Some e x is in (ap (λ (y : JournalEntry). y.session) (sym same), ap (λ (y : JournalEntry). y.number) (sym same), ap (λ (y : JournalEntry). is_run y.kind) (sym same) ∙ short_no_run cut, refl);
             }))
             told_is others
-            (ap (λ (j : Job). record { begun = b; under_way = is_past_moment j }) falls.over ∙ sym (ap (λ (u : Bool). place_after (record { begun = b; under_way = u }) Ended) past));
+            (ap (λ (j : Job). record { begun = b; under_way = is_past_moment j }) falls.over ∙ sym (ap (λ (u : Bool). place_after (record { begun = b; under_way = u }) Ended) past))
+            (later_event old core s t past event);
         named = named_last new ps' s (length old.journal) keeps one within (ap (λ (p : Progress). p.entry) (progress_here ps s _ one (omega (arith, h.places)))) (omega (arith, here, busy.begun));
       };
     }
@@ -463,8 +498,8 @@ done_is old core ps s x reply kept h one within past is stays others idle ends k
     subst (λ (k : List KeptLine). IsHub (with_core old core k) ps) (sym kept_is)
     (keeps_done old.script old.core core old.journal old.kept ps (run_of old.script old.journal) s x.line reply h one within (line_is old ps s x h one within past is) stays others idle ends)
 
-pub short_of : (old : HubState) (core : CoreState) (ps : List Progress) (s : ℕ) (cut : Cut) (x : Progress) → IsHub old ps → 1 ≤ s → s ≤ length old.script.sessions → is_past_moment (seat_of old.core s).job ≡ true → x ≡ get_or ps (s - 1) x → Falls old.core s core → MayEnd cut (seat_of old.core s).job → OthersStay old.core s core → HubShort old core ps s cut x.line
-short_of old core ps s cut x h one within past is falls ends others = hub_short old core ps s cut x.line h one within past (ap (λ (p : Progress). p.line) (progress_is old ps s x h one within is)) falls ends others
+pub short_of : (old : HubState) (core : CoreState) (ps : List Progress) (s : ℕ) (cut : Cut) (x : Progress) → IsHub old ps → 1 ≤ s → s ≤ length old.script.sessions → is_past_moment (seat_of old.core s).job ≡ true → x ≡ get_or ps (s - 1) x → Falls old.core s core → MayEnd cut (seat_of old.core s).job → EventCut (kind_of cut) old.core s core → OthersStay old.core s core → HubShort old core ps s cut x.line
+short_of old core ps s cut x h one within past is falls ends event others = hub_short old core ps s cut x.line h one within past (ap (λ (p : Progress). p.line) (progress_is old ps s x h one within is)) falls ends event others
 
 -- what was recorded of a command that ended early
 pub record ShortSo (old : HubState) (core : CoreState) (ps : List Progress) (s : ℕ) (journal : List JournalEntry) (kept : List KeptLine) (ps' : List Progress) (entry : ℕ) : Type 0 where

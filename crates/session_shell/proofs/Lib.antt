@@ -11,6 +11,8 @@ pub mod Laters
 pub mod News
 pub mod Counts
 pub mod Turning
+pub mod Owing
+pub mod Drawing
 pub mod Whole
 pub mod Finishing
 pub mod Outcomes

@@ -4,7 +4,7 @@ use Rattle.std.specs.Prelude.{if◌then◌else◌}
 use Rattle.std.specs.Option.{unwrap_or}
 use Rattle.std.specs.List.{sum_by}
 use Rattle.std.proofs.lemmas.Option.{slice_get-get_or}
-use Rattle.std.proofs.lemmas.List.{get_or_read}
+use Rattle.std.proofs.lemmas.List.{get_or_read, length-map}
 use Rattle.std.proofs.lemmas.List.Sums.{sum_by-cons}
 use Rattle.list_facts.proofs.Changed.{set_same}
 use Rattle.command_set.specs.Plain.{nth}
@@ -31,9 +31,9 @@ use Rattle.session_shell.specs.declared.hub.Progress.{Progress}
 use Rattle.session_shell.specs.declared.hub.Turn.{Turn}
 use Rattle.session_shell.specs.declared.hub.Turn.TheVariants as turns
 use Rattle.session_shell.specs.declared.steps.First.{First}
-use Rattle.session_shell.specs.Hubs.{HubState, IsHub, Keeps, IsLastEntry, at_start, progress_of}
-use Rattle.session_shell.specs.Steps.{BeginsBy}
-use Rattle.session_shell.specs.Turns.{TurnMade, Place, More, Ended, place_of, places_by, places_in, place_after, IsTurn, BeginsBy as TurnBeginsBy, Ran, MakesTurn, NamesLast, entry_in, turn_made, is_one_step}
+use Rattle.session_shell.specs.Hubs.{HubState, IsHub, Keeps, IsLastEntry, at_start, is_one_step, progress_of}
+use Rattle.session_shell.specs.Steps.{BeginsBy, end_by}
+use Rattle.session_shell.specs.Turns.{TurnMade, Place, More, Ended, place_of, places_by, places_in, place_after, IsTurn, BeginsBy as TurnBeginsBy, Ran, MakesTurn, NamesLast, entry_in, turn_made, TurnLeads, EventBegins, EventBy, EventFirst, EventNext}
 use Rattle.session_shell.proofs.Runs.{run_push}
 use Rattle.session_shell.proofs.Frames.{length-places, place_is, places_set, seats_set, progress_here, told_here, all_entries}
 use Rattle.session_shell.proofs.Kept.{same_count}
@@ -47,28 +47,48 @@ others_same core s = record { schemas = refl; count = refl; each = λ i other. r
 pub place_in_is : (script : Script) (core : CoreState) (journal : List JournalEntry) (kept : List KeptLine) (ps : List Progress) (run : Run) (s : ℕ) → Keeps script core journal kept ps run → 1 ≤ s → s ≤ length script.sessions → place_of (places_by run.told core.seats) s ≡ record { begun = (told_of run s).begun; under_way = is_past_moment (seat_of core s).job }
 place_in_is script core journal kept ps run s h one within = place_is run.told core.seats (s - 1) (omega (arith, h.told)) (omega (arith, h.seats)) ∙ ap (λ (o : Option Told). record { begun = (unwrap_or o untold).begun; under_way = is_past_moment (seat_of core s).job }) (sym (nth_is run.told s one))
 
+-- a run of one turn
+pub ran_turn : (old new : HubState) (t : TurnMade) → TurnLeads old t new → Ran old new (t ∷ [])
+ran_turn old new t h = record {
+  chain = (new, h, refl);
+  script = h.script;
+  journal = h.journal ∙ ap (λ (es : List JournalEntry). old.journal ++ es) (sym (append-nil (entry_in t.entry)));
+  each = (h.turn, tt);
+  places = h.places;
+}
+
 -- one turn
 pub ran_one : (old new : HubState) (ps : List Progress) (s : ℕ) (t : TurnMade) (told : Told) →
     IsHub old ps → 1 ≤ s → s ≤ length old.script.sessions → t.session ≡ s → new.script ≡ old.script → new.journal ≡ old.journal ++ entry_in t.entry →
     IsTurn old.script (run_of old.script old.journal) (record { begun = (told_of (run_of old.script old.journal) s).begun; under_way = is_past_moment (seat_of old.core s).job }) t →
     (run_of new.script new.journal).told ≡ slice_set (run_of old.script old.journal).told (s - 1) told → OthersStay old.core s new.core →
     record { begun = told.begun; under_way = is_past_moment (seat_of new.core s).job } ≡ place_after (record { begun = (told_of (run_of old.script old.journal) s).begun; under_way = is_past_moment (seat_of old.core s).job }) t.end →
+    EventBy (is_past_moment (seat_of old.core s).job) (command_at old.script t.session ((told_of (run_of old.script old.journal) s).begun + 1)) t old.core new.core →
     Ran old new (t ∷ [])
-ran_one old new ps s t told h one within own same grown turn told_is others place =
+ran_one old new ps s t told h one within own same grown turn told_is others place event =
     let run = run_of old.script old.journal in
     let here = place_in_is old.script old.core old.journal old.kept ps run s h one within in
     let at : place_of (places_in old) t.session ≡ record { begun = (told_of run s).begun; under_way = is_past_moment (seat_of old.core s).job } = ap (place_of (places_in old)) own ∙ here in
-    record {
+    ran_turn old new t (record {
       script = same;
-      journal = grown ∙ ap (λ (es : List JournalEntry). old.journal ++ es) (sym (append-nil (entry_in t.entry)));
-      each = (subst (λ (p : Place). IsTurn old.script run p t) (sym at) turn, tt);
+      journal = grown;
+      turn = subst (λ (p : Place). IsTurn old.script run p t) (sym at) turn;
+      event = subst (λ (p : Place). EventBy p.under_way (command_at old.script t.session (p.begun + 1)) t old.core new.core) (sym at) event;
+      at = record {
+        there = record { from_one = rw own one; within = rw own (omega (arith, within, h.seats)) };
+        schemas = h.schemas;
+        told = rw own (omega (arith, one, within, h.told, length-map run.told (λ (told : Told). told.reply)));
+        stands = h.stands;
+        under_way = ap (λ (p : Place). p.under_way) at ∙ sym (ap (λ (n : ℕ). is_past_moment (seat_of old.core n).job) own);
+      };
+      others = subst (λ (n : ℕ). OthersStay old.core n new.core) (sym own) others;
       places =
           ap (λ (ts : List Told). places_by ts new.core.seats) told_is
           ∙ ap (λ (seats : List Seat). places_by (slice_set run.told (s - 1) told) seats) (seats_set old.core new.core s one (omega (arith, h.seats)) others)
           ∙ places_set run.told old.core.seats (s - 1) told (seat_of new.core s)
           ∙ ap (slice_set (places_in old) (s - 1)) (place ∙ ap (λ (p : Place). place_after p t.end) (sym at))
           ∙ ap (λ (x : ℕ). slice_set (places_in old) (x - 1) (place_after (place_of (places_in old) t.session) t.end)) (sym own);
-    }
+    })
 
 -- what is told of a session stands at its place
 pub told_get : (tolds : List Told) (s : ℕ) → 1 ≤ s → s ≤ length tolds → slice_get tolds (s - 1) ≡ Some (unwrap_or (nth tolds s) untold)
@@ -86,7 +106,9 @@ rests old ps s n h one within idle next none =
           (subst (λ (u : Bool). IsTurn old.script run (record { begun = b; under_way = u }) t) (sym (ap is_past_moment idle))
           (subst (TurnBeginsBy old.script run (record { begun = b; under_way = false }) t) (sym (ap (command_at old.script s) (sym next) ∙ none)) (record { entry = refl; end = refl })))
           (sym (set_same run.told (s - 1) (told_of run s) (told_get run.told s one (omega (arith, h.told)))))
-          (others_same old.core s) refl;
+          (others_same old.core s) refl
+          (subst (λ (u : Bool). EventBy u (command_at old.script s (b + 1)) t old.core old.core) (sym (ap is_past_moment idle))
+          (subst (λ (o : Option Command). EventNext o t old.core old.core) (sym (ap (command_at old.script s) (sym next) ∙ none)) refl));
       named = tt;
     }
 
@@ -106,6 +128,13 @@ moved old ps s n = slice_set ps (s - 1) (record { begun = n; entry = length old.
 pub named_last : (hub : HubState) (ps : List Progress) (s at : ℕ) → IsHub hub ps → 1 ≤ s → s ≤ length hub.script.sessions → (progress_of ps s).entry ≡ at → 1 ≤ (told_of (run_of hub.script hub.journal) s).begun → NamesLast hub s (turns.Ended at)
 named_last hub ps s at h one within is begun = subst (λ (k : ℕ). IsLastEntry hub.journal k s (told_of (run_of hub.script hub.journal) s).begun) is ((h.each s one within).entry begun)
 
+-- the event of a turn that begins a command
+begins_event : (old : HubState) (core : CoreState) (s b : ℕ) (t : TurnMade) (command : Command) → (seat_of old.core s).job ≡ jobs.Idle → command_at old.script t.session (b + 1) ≡ Some command → EventBegins t.entry t.end old.core t.session command core →
+    EventBy (is_past_moment (seat_of old.core s).job) (command_at old.script t.session (b + 1)) t old.core core
+begins_event old core s b t command idle there event =
+    subst (λ (u : Bool). EventBy u (command_at old.script t.session (b + 1)) t old.core core) (sym (ap is_past_moment idle))
+    (subst (λ (o : Option Command). EventNext o t old.core core) (sym there) event)
+
 made_by : (goes_on : Bool) (old new : HubState) (ps : List Progress) (s n : ℕ) (command : Command) (kind : Kind) (told : Told) (turn : Turn) →
     IsHub old ps → 1 ≤ s → s ≤ length old.script.sessions → (seat_of old.core s).job ≡ jobs.Idle →
     n ≡ (told_of (run_of old.script old.journal) s).begun + 1 → command_at old.script s n ≡ Some command → OthersStay old.core s new.core → new.script ≡ old.script →
@@ -113,9 +142,9 @@ made_by : (goes_on : Bool) (old new : HubState) (ps : List Progress) (s n : ℕ)
     (run_of new.script new.journal).told ≡ slice_set (run_of old.script old.journal).told (s - 1) told →
     is_past_moment (seat_of new.core s).job ≡ goes_on →
     (goes_on ≡ true → (kind ≡ kinds.Run) × (is_granted (answer old.script.schemas (run_of old.script old.journal).plain s command).reply ≡ true) × (is_one_step command ≡ false)) →
-    NamesLast new s (turns.Ended (length old.journal)) →
+    NamesLast new s (turns.Ended (length old.journal)) → EventFirst kind (end_by goes_on) old.core s command new.core →
     turn ≡ (if goes_on then turns.More else turns.Ended (length old.journal)) → MakesTurn old s new turn
-made_by true old new ps s n command kind told turn h one within idle next there others same grown begun told_is past more named is =
+made_by true old new ps s n command kind told turn h one within idle next there others same grown begun told_is past more named event is =
     let e : JournalEntry = record { session = s; number = n; kind = kind } in
     let run = run_of old.script old.journal in
     let b = (told_of run s).begun in
@@ -129,10 +158,11 @@ made_by true old new ps s n command kind told turn h one within idle next there 
           told_is others
           (ap (λ (x : ℕ). record { begun = x; under_way = is_past_moment (seat_of new.core s).job }) (begun ∙ next)
           ∙ ap (λ (u : Bool). record { begun = b + 1; under_way = u }) past
-          ∙ sym (ap (λ (j : Job). place_after (record { begun = b; under_way = is_past_moment j }) More) idle));
+          ∙ sym (ap (λ (j : Job). place_after (record { begun = b; under_way = is_past_moment j }) More) idle))
+          (begins_event old new.core s b t command idle (ap (command_at old.script s) (sym next) ∙ there) event);
       named = tt;
     })
-made_by false old new ps s n command kind told turn h one within idle next there others same grown begun told_is past more named is =
+made_by false old new ps s n command kind told turn h one within idle next there others same grown begun told_is past more named event is =
     let e : JournalEntry = record { session = s; number = n; kind = kind } in
     let run = run_of old.script old.journal in
     let b = (told_of run s).begun in
@@ -146,7 +176,8 @@ made_by false old new ps s n command kind told turn h one within idle next there
           told_is others
           (ap (λ (x : ℕ). record { begun = x; under_way = is_past_moment (seat_of new.core s).job }) (begun ∙ next)
           ∙ ap (λ (u : Bool). record { begun = b + 1; under_way = u }) past
-          ∙ sym (ap (λ (j : Job). place_after (record { begun = b; under_way = is_past_moment j }) Ended) idle));
+          ∙ sym (ap (λ (j : Job). place_after (record { begun = b; under_way = is_past_moment j }) Ended) idle))
+          (begins_event old new.core s b t command idle (ap (command_at old.script s) (sym next) ∙ there) event);
       named = named;
     })
 
@@ -156,9 +187,9 @@ pub record HubBegun (old : HubState) (core : CoreState) (ps : List Progress) (s 
   pub made : (turn : Turn) → turn ≡ (if first.goes_on then turns.More else turns.Ended (length old.journal)) → MakesTurn old s (recorded old core s n first) turn
   pub past : is_past_moment (seat_of core s).job ≡ first.goes_on
 
-pub begun_hub : (old : HubState) (core : CoreState) (ps : List Progress) (s n : ℕ) (command : Command) (first : First) → BeginsBy old.core s command core first → IsHub old ps → 1 ≤ s → s ≤ length old.script.sessions → (seat_of old.core s).job ≡ jobs.Idle →
+pub begun_hub : (old : HubState) (core : CoreState) (ps : List Progress) (s n : ℕ) (command : Command) (first : First) → BeginsBy old.core s command core first → EventFirst first.kind (end_by first.goes_on) old.core s command core → IsHub old ps → 1 ≤ s → s ≤ length old.script.sessions → (seat_of old.core s).job ≡ jobs.Idle →
     n ≡ (told_of (run_of old.script old.journal) s).begun + 1 → command_at old.script s n ≡ Some command → OthersStay old.core s core → HubBegun old core ps s n first
-begun_hub old core ps s n command first begins h one within idle next there others =
+begun_hub old core ps s n command first begins event h one within idle next there others =
     let e : JournalEntry = record { session = s; number = n; kind = first.kind } in
     let run = run_of old.script old.journal in
     let new = recorded old core s n first in
@@ -171,7 +202,7 @@ begun_hub old core ps s n command first begins h one within idle next there othe
       keeps = keeps;
       made = λ turn is. made_by first.goes_on old new ps s n command first.kind told turn h one within idle next there others refl refl refl told_is k.past k.more
           (named_last new (moved old ps s n) s (length old.journal) keeps one within (ap (λ (p : Progress). p.entry) (progress_here ps s _ one (omega (arith, h.places)))) (omega (arith, here, next)))
-          is;
+          event is;
       past = k.past;
     }
 

@@ -3,12 +3,14 @@ use Rattle.std.proofs.Common.{◌≡◌, ◌-◌, ℕ, zero, suc, true, false, L
 use Rattle.std.specs.Prelude.{map as mapped}
 use Rattle.std.specs.Option.{unwrap_or}
 use Rattle.std.proofs.lemmas.List.{length-replicate}
+use Rattle.tuple_layout.specs.Schemas.{TableSchema}
 use Rattle.command_set.proofs.Numbered.{nth_is}
 use Rattle.command_set.specs.declared.journal.Told.{Told}
 use Rattle.command_set.specs.declared.Script.{Script}
 use Rattle.command_set.specs.declared.Reply.{Reply}
 use Rattle.command_set.specs.Plain.{first_state}
 use Rattle.command_set.specs.Journals.{first_run, untold, told_of, run_of}
+use Rattle.core_parts.specs.First.{first_core}
 use Rattle.core_state.specs.declared.advance.Under.TheVariants as under
 use Rattle.core_state.specs.declared.seat.Job.{Job}
 use Rattle.core_state.specs.declared.seat.Job.TheVariants as jobs
@@ -19,9 +21,13 @@ use Rattle.core_state.specs.State.{CoreState, is_past_moment, nobody, schemas_of
 use Rattle.session_shell.specs.declared.hub.Progress.{Progress}
 use Rattle.command_set.specs.declared.JournalEntry.{JournalEntry}
 use Rattle.session_shell.specs.declared.hub.KeptLine.{KeptLine}
-use Rattle.session_shell.specs.Hubs.{IsHub, Keeps, SessionIs, IsScript, IsBusyBy, at_start, progress_of}
-use Rattle.session_shell.specs.Turns.{Place, places_by}
+use Rattle.session_shell.specs.Hubs.{HubState, IsHub, Keeps, SessionIs, IsScript, IsBusyBy, at_start, progress_of}
+use Rattle.session_shell.specs.Owed.{AreEnough, first_owed}
+use Rattle.session_shell.proofs.Owing.{enough_first}
+use Rattle.session_shell.specs.Turns.{AreTurns, HasTurned, Place, first_hub, places_by}
+use Rattle.session_shell.specs.Follows.{IsOfTurns}
 use Rattle.session_shell.proofs.Firsts.{session_at}
+use Rattle.session_shell.proofs.Laters.{hub_of}
 
 replies_none : (n : ℕ) → mapped (λ (told : Told). told.reply) (replicate n untold) ≡ replicate n None
 replies_none zero = refl
@@ -51,6 +57,7 @@ session_first script s = record {
   below = λ k l there session. absurd (cc);
   line = λ one. absurd (omega (arith, one));
   entry = λ one. absurd (omega (arith, one));
+  kind = λ kind last. absurd (cc);
 }
 
 -- a new hub
@@ -105,6 +112,22 @@ new_is script core journal kept ps n count rules j k n_is count_is schemas seats
     (subst (λ (ks : List KeptLine). IsHub (record { script = script; core = core; journal = []; kept = ks }) ps) (sym k)
     (keeps_new script core ps rules schemas (seats ∙ ap (λ (m : ℕ). replicate m nobody) n_is) (places ∙ ap (λ (m : ℕ). replicate m at_start) count_is)
     (subst (λ (m : ℕ). Stands core (first_state m) (replicate m None)) n_is stands)))
+
+-- it is the hub before the first turn
+pub first_is : (script : Script) (core : CoreState) (journal : List JournalEntry) (kept : List KeptLine) (schemas : List TableSchema) (n : ℕ) → journal ≡ [] → kept ≡ [] → schemas ≡ script.schemas → n ≡ length script.sessions → core ≡ first_core schemas script.low script.high n → hub_of script core journal kept ≡ first_hub script
+first_is script core journal kept schemas n j k schemas_is n_is core_is =
+    ap (λ (js : List JournalEntry). hub_of script core js kept) j
+    ∙ ap (hub_of script core []) k
+    ∙ ap (λ (c : CoreState). hub_of script c [] []) (core_is ∙ ap (λ (xs : List TableSchema). first_core xs script.low script.high n) schemas_is ∙ ap (first_core script.schemas script.low script.high) n_is)
+
+-- the turns that made a hub give its journal
+pub of_turns : (hub : HubState) → HasTurned hub → IsOfTurns hub.script hub.journal
+of_turns hub h = record {
+  turns = h.turns;
+  entries = sym h.ran.journal;
+  each = subst (λ (ps : List Place). AreTurns hub.script (first_run hub.script) ps h.turns) (places_first (length hub.script.sessions)) h.ran.each;
+  enough = subst (λ (ps : List Place). AreEnough hub.script (first_run hub.script) ps (first_owed hub.script) h.turns) (places_first (length hub.script.sessions)) (enough_first hub.script hub h.turns h.ran.chain);
+}
 
 -- where its sessions are
 pub new_places : (script : Script) (core : CoreState) (journal : List JournalEntry) (n : ℕ) → journal ≡ [] → n ≡ length script.sessions → core.seats ≡ replicate n nobody → places_by (run_of script journal).told core.seats ≡ replicate (length script.sessions) (record { begun = 0; under_way = false })

@@ -78,7 +78,7 @@ replays_by t script hub (BadScript line) reads run is h = absurd h
 replays_by t script hub ReadFault reads run is h = absurd h
 replays_by t script hub WriteFault reads run is h = (record { by = record { script = script; reads = reads; hub = hub; is = is; run = run }; part = h.0 }, h.1)
 replays_by t script hub TooLong reads run is h = absurd h
-replays_by t script hub Memory reads run is h = (taken_whole t.left t.left' reads.bytes reads.whole, inr (record { by = record { script = script; reads = reads; hub = hub; is = is; run = run }; some = h }))
+replays_by t script hub Memory reads run is h = (taken_whole t.left t.left' reads.bytes reads.whole, inr (record { by = record { script = script; reads = reads; hub = hub; is = is; run = run }; wanting = h.0; text = h.1 }))
 
 told_bytes : (t : Told) (bytes whole : List ℕ) → t.left ≡ Some bytes → IsWhole 4194304 t.left t.left' whole → bytes ≡ whole
 told_bytes t bytes whole told h = sym (told_whole t.left t.left' whole bytes told h.reads).0

@@ -1,13 +1,16 @@
 -- The text of a hub's lines where nothing is under way.
-use Rattle.std.proofs.Common.{◌≡◌, ◌<◌, ◌≤◌, ◌-◌, inl, inr, ℕ, suc, Bool, true, false, List, [], ◌∷◌, ◌++◌, Option, Some, None, length, get_or, slice_get, refl, sym, ap, ◌∙◌, arith}
+use Rattle.std.proofs.Common.{◌≡◌, ◌<◌, ◌≤◌, ◌+◌, ◌-◌, inl, inr, ℕ, suc, Bool, true, false, List, [], ◌∷◌, ◌++◌, Option, Some, None, length, get_or, slice_get, take, drop, refl, sym, ap, ◌∙◌, arith, append-nil}
 use Rattle.std.specs.Prelude.{is_some, ◌==◌, ◌&&◌, if◌then◌else◌}
 use Rattle.std.specs.List.{flat_map}
 use Rattle.std.specs.Option.{option_map, option_map_or}
 use Rattle.std.proofs.lemmas.Bool.{cases_lt}
-use Rattle.std.proofs.lemmas.List.{get_or_past}
+use Rattle.std.proofs.lemmas.List.{get_or_past, take-append-drop, take_more}
+use Rattle.std.proofs.lemmas.List.Concat.{flat_map-append}
 use Rattle.std.proofs.lemmas.Option.{slice_get_read, same_Some}
 use Rattle.command_set.specs.declared.journal.Line.{Line}
+use Rattle.command_set.specs.declared.Reply.{Reply}
 use Rattle.command_set.specs.declared.Script.{Script}
+use Rattle.transcript.specs.Lines.{reply_line}
 use Rattle.command_set.specs.Journals.{command_at, run_of, told_of}
 use Rattle.core_state.specs.declared.seat.Job.{Job}
 use Rattle.core_state.specs.declared.seat.Seat.{Seat}
@@ -17,7 +20,7 @@ use Rattle.session_shell.specs.declared.hub.Progress.{Progress}
 use Rattle.session_shell.specs.Hubs.{HubState, IsHub, is_read, kept_of}
 use Rattle.session_shell.specs.Turns.{Place}
 use Rattle.session_shell.specs.Follows.{IsIdle}
-use Rattle.session_shell.specs.Text.{AreSaid, line_text, said_text, text_of}
+use Rattle.session_shell.specs.Text.{AreSaid, line_text, said_by, said_text, text_of}
 use Rattle.session_shell.proofs.Runs.{and_none}
 use Rattle.session_shell.proofs.Kept.{KeptAs, kept_by, refit, said_of}
 use Rattle.session_shell.proofs.Made.{place_in_is}
@@ -66,3 +69,14 @@ never_unsaid kept i line said within is none =
     let some : is_some line.reply ≡ true = said.each i line (slice_get_read kept (length kept) i line refl within is) in
     let not : is_some line.reply ≡ false = ap is_some none in
     cc
+
+-- the text of one line more
+pub said_more : (kept : List KeptLine) (i : ℕ) (line : KeptLine) (reply : Reply) → i < length kept → line ≡ get_or kept i line → line.reply ≡ Some reply → flat_map said_text (take (i + 1) kept) ≡ flat_map said_text (take i kept) ++ reply_line line.session line.number reply
+said_more kept i line reply within is said =
+    ap (flat_map said_text) (take_more kept i line within ∙ ap (λ (x : KeptLine). take i kept ++ x ∷ []) (sym is))
+    ∙ flat_map-append said_text (take i kept) (line ∷ [])
+    ∙ ap (λ (text : List ℕ). flat_map said_text (take i kept) ++ text) (append-nil (said_text line) ∙ ap (said_by line.session line.number) said)
+
+-- and of all
+pub said_rest : (kept : List KeptLine) (i : ℕ) → flat_map said_text (take i kept) ++ flat_map said_text (drop i kept) ≡ flat_map said_text kept
+said_rest kept i = sym (flat_map-append said_text (take i kept) (drop i kept)) ∙ ap (flat_map said_text) (take-append-drop i kept)

@@ -12,7 +12,7 @@ use Rattle.command_set.specs.declared.JournalEntry.{JournalEntry}
 use Rattle.command_set.specs.Journals.{run_of, run_on, first_run}
 use Rattle.session_shell.specs.declared.hub.Turn.{Turn}
 use Rattle.session_shell.specs.Hubs.{HubState}
-use Rattle.session_shell.specs.Turns.{TurnMade, Place, after_turn, after_turns, entries_of, entry_in, AreTurns, Ran, MakesTurn, places_in}
+use Rattle.session_shell.specs.Turns.{TurnMade, Place, after_turn, after_turns, entries_of, entry_in, AreTurns, Leads, Ran, MakesTurn, HasTurned, first_hub, places_in}
 use Rattle.session_shell.specs.Follows.{AllOf, AreOfItems, RunsItem, RunsItems, repeated, items_in, items_of}
 use Rattle.command_set.proofs.Moments.{run_on-append}
 
@@ -36,11 +36,16 @@ turns-append script run places (t ∷ ts) us h k = (h.0, turns-append script (ru
 
 -- no turn
 pub ran_none : (hub : HubState) → Ran hub hub []
-ran_none hub = record { script = refl; journal = sym (append-nil hub.journal); each = tt; places = refl }
+ran_none hub = record { chain = refl; script = refl; journal = sym (append-nil hub.journal); each = tt; places = refl }
+
+pub leads_on : (a b c : HubState) (ts us : List TurnMade) → Leads a ts b → Leads b us c → Leads a (ts ++ us) c
+leads_on a b c [] us h k = subst (λ (hub : HubState). Leads hub us c) h k
+leads_on a b c (t ∷ ts) us h k = (h.0, h.1, leads_on h.0 b c ts us h.2 k)
 
 -- turns after turns
 pub ran_on : (a b c : HubState) (ts us : List TurnMade) → Ran a b ts → Ran b c us → Ran a c (ts ++ us)
 ran_on a b c ts us h k = record {
+  chain = leads_on a b c ts us h.chain k.chain;
   script = k.script ∙ h.script;
   journal = k.journal ∙ ap (λ (es : List JournalEntry). es ++ entries_of us) h.journal ∙ append_assoc a.journal (entries_of ts) (entries_of us) ∙ ap (λ (es : List JournalEntry). a.journal ++ es) (sym (entries-append ts us));
   each = turns-append a.script (run_of a.script a.journal) (places_in a) ts us h.each
@@ -50,6 +55,17 @@ ran_on a b c ts us h k = record {
       (subst (λ (s : Script). AreTurns s (run_of s b.journal) (places_in b) us) h.script k.each)));
   places = k.places ∙ ap (λ (ps : List Place). after_turns ps us) h.places ∙ sym (after-append (places_in a) ts us);
 }
+
+-- more turns of a hub
+pub turned_on : (old new : HubState) (ts : List TurnMade) → HasTurned old → Ran old new ts → HasTurned new
+turned_on old new ts h ran = record {
+  turns = h.turns ++ ts;
+  ran = subst (λ (script : Script). Ran (first_hub script) new (h.turns ++ ts)) (sym ran.script) (ran_on (first_hub old.script) old new h.turns ts h.ran ran);
+}
+
+-- a hub that has made no turn
+pub turned_none : (hub : HubState) (script : Script) → hub ≡ first_hub script → HasTurned hub
+turned_none hub script is = subst HasTurned (sym is) (record { turns = []; ran = ran_none (first_hub script) })
 
 pub all_of-append : (s : ℕ) (ts us : List TurnMade) → AllOf s ts → AllOf s us → AllOf s (ts ++ us)
 all_of-append s [] us h k = k

@@ -8,6 +8,7 @@ use Rattle.command_set.specs.declared.Item.TheVariants.{Once, Times, Whole}
 use Rattle.command_set.specs.declared.Passage.{Passage}
 use Rattle.command_set.specs.declared.JournalEntry.{JournalEntry}
 use Rattle.session_shell.specs.Hubs.{HubState, IsSessionOf, commands_of}
+use Rattle.session_shell.specs.Owed.{AreEnough, first_owed}
 use Rattle.session_shell.specs.Turns.{TurnMade, Place, More, Nothing, at_start, place_of, after_turns, entries_of, AreTurns, Ran, places_in}
 
 -- all turns are of this session
@@ -119,6 +120,18 @@ pub record Follows (script : Script) (journal : List JournalEntry) : Type 0 wher
   -- their sessions are those of the schedule's items, and then of a finish
   pub schedule : AreOfItems (items_of script.schedule) scheduled
   pub finish : Finishes script (after_turns (first_places script) scheduled) finishing
+  -- no command ends in fewer turns than it takes at least
+  pub enough : AreEnough script (first_run script) (first_places script) (first_owed script) (scheduled ++ finishing)
+
+-- a journal is one of turns, in whatever order the sessions took them
+pub record IsOfTurns (script : Script) (journal : List JournalEntry) : Type 0 where
+  pub turns : List TurnMade
+  -- the entries of the turns, in order, are the journal
+  pub entries : entries_of turns ≡ journal
+  -- each is a turn
+  pub each : AreTurns script (first_run script) (first_places script) turns
+  -- no command ends in fewer turns than it takes at least
+  pub enough : AreEnough script (first_run script) (first_places script) (first_owed script) turns
 
 -- a hub has gone through these items
 pub record RunsItems (old new : HubState) (items : List Item) : Type 0 where

@@ -68,6 +68,15 @@ is_read (commands.Part table key column offset len) = true
 is_read (commands.Fetch handle offset len) = true
 is_read command = false
 
+-- whether a command takes one step, granted or not
+abbrev pub is_one_step : Command → Bool
+is_one_step (commands.Begin level) = true
+is_one_step commands.Commit = true
+is_one_step commands.Rollback = true
+is_one_step (commands.Open handle table key column) = true
+is_one_step (commands.Close handle) = true
+is_one_step command = false
+
 -- whether a write saves a value
 abbrev pub is_at_save : WriteStage → Bool
 is_at_save (stages.Saving old new plan at save) = true
@@ -113,6 +122,7 @@ pub record IsBusy (script : Script) (s : ℕ) (told : Told) (job : Job) : Type 0
   pub command : Command
   pub there : command_at script s told.begun ≡ Some command
   pub for_rows : is_data command ≡ true
+  pub steps : is_one_step command ≡ false
   pub values : is_saving job ≡ true → writes_values command ≡ true
 
 -- a session is busy exactly where the core has a command of it under way, and then the command has passed its moment
@@ -144,6 +154,7 @@ pub record SessionIs (script : Script) (journal : List JournalEntry) (lines : Li
   pub below : (k : ℕ) (line : Line) → slice_get lines k ≡ Some line → line.session ≡ s → line.number ≤ told.begun
   pub line : 1 ≤ told.begun → IsLine lines progress.line s told
   pub entry : 1 ≤ told.begun → IsLastEntry journal progress.entry s told.begun
+  pub kind : (kind : Kind) → told.last ≡ Some kind → slice_get journal progress.entry ≡ Some (record { session = s; number = told.begun; kind = kind })
 
 -- the most entries that a session's commands have so far
 abbrev pub most_entries_by : ℕ → Option Kind → ℕ
@@ -169,6 +180,25 @@ pub record Keeps (script : Script) (core : CoreState) (journal : List JournalEnt
   pub each : (s : ℕ) → 1 ≤ s → s ≤ length script.sessions → SessionIs script journal run.lines s (told_of run s) (seat_of core s).job (progress_of progress s)
   pub entries : length journal ≤ sum_by most_entries run.told
   pub fewer : length run.lines ≤ length journal
+
+-- what a hub's journal tells of the hub: the core stands for the state at its end, it is legal, and its printed lines are kept
+pub record TellsHub (hub : HubState) : Type 0 where
+  pub stands : Stands hub.core (run_of hub.script hub.journal).plain (replies_of (run_of hub.script hub.journal))
+  pub legal : is_legal hub.script hub.journal ≡ true
+  pub lines : (k : ℕ) → slice_get hub.kept k ≡ option_map (kept_of hub.script (run_of hub.script hub.journal) hub.core) (slice_get (run_of hub.script hub.journal).lines k)
+
+-- the last entry of a session is the Run of a command of more than one step, which was granted
+pub record LastIsRun (hub : HubState) (s : ℕ) : Type 0 where
+  pub at : ℕ
+  pub number : ℕ
+  pub there : slice_get hub.journal at ≡ Some (record { session = s; number = number; kind = kinds.Run })
+  pub last : (k : ℕ) (e : JournalEntry) → slice_get hub.journal k ≡ Some e → e.session ≡ s → k ≤ at
+  pub reply : Reply
+  pub answered : (told_of (run_of hub.script hub.journal) s).reply ≡ Some reply
+  pub granted : is_granted reply ≡ true
+  pub command : Command
+  pub is : command_at hub.script s number ≡ Some command
+  pub steps : is_one_step command ≡ false
 
 -- what is true of every hub: the core stands for the state at the journal's end, the journal is legal, and the kept lines are the printed ones
 abbrev pub IsHub : HubState → List Progress → Type 0

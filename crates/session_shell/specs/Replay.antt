@@ -15,8 +15,9 @@ use Rattle.script_text.specs.Scripts.{script_in}
 use Rattle.script_words.specs.declared.fault.LineFault.{LineFault}
 use Rattle.script_text.specs.declared.fault.ScriptFault.TheVariants as scripts
 use Rattle.session_shell.specs.Hubs.{HubState}
-use Rattle.session_shell.specs.Follows.{Follows}
+use Rattle.session_shell.specs.Follows.{Follows, IsIdle}
 use Rattle.session_shell.specs.Text.{text_of}
+use Rattle.draw_counts.specs.Drawn.{ReachesIds}
 use Rattle.session_shell.specs.declared.Status.{Status}
 use Rattle.session_shell.specs.declared.Status.TheVariants.{Done, Usage, BadScript, ReadFault, WriteFault, TooLong, Memory}
 
@@ -37,12 +38,14 @@ pub record ReadsNoScript (old new : Option (List ℕ)) (line : ℕ) : Type 0 whe
   pub cause : LineFault
   pub refused : script_in bytes ≡ Err (scripts.BadScript line cause)
 
--- a hub has run a script: its journal is legal and complete, and follows the script
+-- a hub has run a script: its journal is legal and complete, follows the script, and tells of a refused draw only where the draw count has reached the number of ids; nothing is under way
 pub record HasRun (script : Script) (hub : HubState) : Type 0 where
   pub own : hub.script ≡ script
   pub legal : is_legal script hub.journal ≡ true
   pub complete : is_complete script hub.journal ≡ true
   pub follows : Follows script hub.journal
+  pub draws : ReachesIds script hub.journal
+  pub idle : IsIdle hub
 
 -- whether an entry tells of want of memory
 abbrev pub is_want : Kind → Bool
@@ -78,10 +81,11 @@ pub record WritesPart (left left' written written' : Option (List ℕ)) (kept : 
   pub by : Kept left left' kept
   pub part : AppendsPart written written' (text_in by.hub)
 
--- the run's whole text is written behind what the sink held, or nothing
-pub record WritesSome (left left' written written' : Option (List ℕ)) (kept : Option HubState) : Type 0 where
+-- the run wanted memory, and its whole text is written behind what the sink held
+pub record WritesWanting (left left' written written' : Option (List ℕ)) (kept : Option HubState) : Type 0 where
   pub by : Kept left left' kept
-  pub some : (written' ≡ written) ⊎ Appends written written' (text_in by.hub)
+  pub wanting : has_want by.hub.journal ≡ true
+  pub text : Appends written written' (text_in by.hub)
 
 -- nothing is written, and no hub is kept
 pub record WritesNothing (written written' : Option (List ℕ)) (kept : Option HubState) : Type 0 where
@@ -119,7 +123,7 @@ ReadsByAnswer left left' (Err status) = ⊥
 abbrev pub PrintsBy : HubState → Option (List ℕ) → Option (List ℕ) → ℕ → ℕ → Status → Type 0
 PrintsBy hub written written' writes writes' Done = (has_want hub.journal ≡ false) × Appends written written' (text_in hub)
 PrintsBy hub written written' writes writes' WriteFault = AppendsPart written written' (text_in hub) × HasRisen writes writes'
-PrintsBy hub written written' writes writes' Memory = (written' ≡ written) ⊎ Appends written written' (text_in hub)
+PrintsBy hub written written' writes writes' Memory = (has_want hub.journal ≡ true) × Appends written written' (text_in hub)
 PrintsBy hub written written' writes writes' status = ⊥
 
 -- what came of a replay, by its status
@@ -130,4 +134,4 @@ Replays t (BadScript line) = ReadsNoScript t.left t.left' line × WritesNothing 
 Replays t ReadFault = TakesUpTo t.left t.left' 4194304 × HasRisen t.reads t.reads' × WritesNothing t.written t.written' t.kept'
 Replays t WriteFault = WritesPart t.left t.left' t.written t.written' t.kept' × HasRisen t.writes t.writes'
 Replays t TooLong = Takes t.left t.left' 4194305 × WritesNothing t.written t.written' t.kept'
-Replays t Memory = TakesUpTo t.left t.left' 4194304 × (WritesNothing t.written t.written' t.kept' ⊎ WritesSome t.left t.left' t.written t.written' t.kept')
+Replays t Memory = TakesUpTo t.left t.left' 4194304 × (WritesNothing t.written t.written' t.kept' ⊎ WritesWanting t.left t.left' t.written t.written' t.kept')

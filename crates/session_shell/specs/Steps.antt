@@ -9,16 +9,16 @@ use Rattle.command_set.specs.declared.Kind.{Kind}
 use Rattle.command_set.specs.declared.Kind.TheVariants as kinds
 use Rattle.command_set.specs.declared.Reply.{Reply}
 use Rattle.command_set.specs.declared.Reply.TheVariants as replies
-use Rattle.core_state.specs.Events.{Event, left}
-use Rattle.core_state.specs.Lines.{after_submit}
-use Rattle.core_state.specs.Moves.{Falls, Runs}
+use Rattle.core_state.specs.Events.{left}
+use Rattle.core_state.specs.Moves.{Falls}
 use Rattle.core_state.specs.Stands.{Stands}
 use Rattle.core_state.specs.State.{CoreState, is_past_moment, schemas_of, seat_of}
 use Rattle.core_state.specs.declared.advance.Advance.{Advance}
+use Rattle.core_state.specs.declared.advance.Advance.TheVariants as advances
 use Rattle.core_state.specs.declared.seat.Job.{Job}
 use Rattle.core_state.specs.declared.seat.Job.TheVariants as jobs
-use Rattle.session_shell.specs.Hubs.{is_read, is_saving}
-use Rattle.session_shell.specs.Turns.{is_one_step}
+use Rattle.session_shell.specs.Hubs.{is_one_step, is_read, is_saving}
+use Rattle.session_shell.specs.Turns.{End, More, Ended, EventCut, EventLast, MakesEvent, MakesFirst}
 use Rattle.session_shell.specs.declared.steps.Cut.{Cut}
 use Rattle.session_shell.specs.declared.steps.Cut.TheVariants as cuts
 use Rattle.session_shell.specs.declared.steps.First.{First}
@@ -51,10 +51,10 @@ pub record IsGranted (core : CoreState) (s : ℕ) : Type 0 where
   pub answered : slice_get replies (s - 1) ≡ Some (Some reply)
   pub granted : is_granted reply ≡ true
 
--- a command was submitted, and its moment came: what it is to the plain store, and the event that was made
-pub record MakesFirst (old : CoreState) (s : ℕ) (command : Command) (new : CoreState) (advance : Advance) : Type 0 where
-  pub runs : Runs old s command new advance
-  pub event : Event (after_submit old s command) s new advance
+-- a command was submitted, and its moment came, with some answer
+pub record HasMade (old : CoreState) (s : ℕ) (command : Command) (new : CoreState) : Type 0 where
+  pub advance : Advance
+  pub makes : MakesFirst old s command new advance
 
 -- a command goes on after its first step: it was granted, and takes more than one step; a read's reply comes at its end
 pub record SaysOn (command : Command) (job : Job) (kept : Option Reply) (reply : Reply) : Type 0 where
@@ -112,3 +112,14 @@ abbrev pub StepsLater : CoreState → ℕ → CoreState → Later → Type 0
 StepsLater old s new later.More = GoesOnLater old s new
 StepsLater old s new (later.Done reply) = StaysFor old new × ((seat_of new s).job ≡ jobs.Idle) × EndsWith old s reply
 StepsLater old s new (later.Short cut) = Falls old s new × MayEnd cut (seat_of old s).job
+
+-- how a turn ends that begins a command
+abbrev pub end_by : Bool → End
+end_by true = More
+end_by false = Ended
+
+-- the event that a later step of a command has made
+abbrev pub LaterMade : CoreState → ℕ → CoreState → Later → Type 0
+LaterMade old s new later.More = MakesEvent old s new advances.More
+LaterMade old s new (later.Done reply) = EventLast old s new
+LaterMade old s new (later.Short cut) = EventCut (kind_of cut) old s new

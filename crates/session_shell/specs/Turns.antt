@@ -1,5 +1,5 @@
 -- Turns of a hub: what each adds to the journal, and where it leaves its session.
-use Rattle.std.specs.Prelude.{◌≡◌, ◌≢◌, ℕ, ◌+◌, ◌-◌, Bool, true, false, List, [], ◌∷◌, ◌++◌, Option, Some, None, slice_set, slice_index_or, if◌then◌else◌}
+use Rattle.std.specs.Prelude.{◌≡◌, ◌≢◌, ◌⊎◌, ◌<◌, ℕ, ◌+◌, ◌-◌, Bool, true, false, List, [], ◌∷◌, ◌++◌, Option, Some, None, length, slice_set, slice_index_or, if◌then◌else◌}
 use Rattle.command_set.specs.Replies.{is_granted}
 use Rattle.command_set.specs.Answers.{answer}
 use Rattle.command_set.specs.declared.journal.Run.{Run}
@@ -7,14 +7,25 @@ use Rattle.command_set.specs.declared.journal.Told.{Told}
 use Rattle.command_set.specs.Journals.{run_of, run_on, told_of, command_at, is_run}
 use Rattle.command_set.specs.declared.Script.{Script}
 use Rattle.command_set.specs.declared.Command.{Command}
-use Rattle.command_set.specs.declared.Command.TheVariants as commands
 use Rattle.command_set.specs.declared.JournalEntry.{JournalEntry}
 use Rattle.command_set.specs.declared.Kind.TheVariants as kinds
-use Rattle.core_state.specs.State.{is_past_moment}
+use Rattle.command_set.specs.declared.Kind.{Kind}
+use Rattle.command_set.specs.declared.Reply.{Reply}
+use Rattle.command_set.specs.declared.Reply.TheVariants as replies
+use Rattle.core_state.specs.Events.{Event}
+use Rattle.core_state.specs.Lines.{after_failing, after_submit}
+use Rattle.core_state.specs.Moves.{OthersStay, Runs, StandsOn}
+use Rattle.core_state.specs.Stands.{Stands}
+use Rattle.core_state.specs.State.{CoreState, IsSession, is_past_moment, schemas_of, seat_of}
+use Rattle.core_state.specs.declared.advance.Advance.{Advance}
+use Rattle.core_state.specs.declared.advance.Advance.TheVariants as advances
 use Rattle.core_state.specs.declared.seat.Seat.{Seat}
+use Rattle.core_events.specs.Advanced.{FailsBy}
+use Rattle.core_parts.specs.First.{first_core}
+use Rattle.toast_core.specs.Cores.{IsCore}
 use Rattle.session_shell.specs.declared.hub.Turn.{Turn}
 use Rattle.session_shell.specs.declared.hub.Turn.TheVariants as turns
-use Rattle.session_shell.specs.Hubs.{HubState, IsLastEntry}
+use Rattle.session_shell.specs.Hubs.{HubState, IsLastEntry, is_one_step, replies_of}
 
 -- how a turn ends: no command was left, the command goes on, or the command is over
 pub data End : Type 0 where
@@ -70,15 +81,6 @@ abbrev pub entries_of : List TurnMade → List JournalEntry
 entries_of [] = []
 entries_of (t ∷ ts) = entry_in t.entry ++ entries_of ts
 
--- whether a command takes one step, granted or not
-abbrev pub is_one_step : Command → Bool
-is_one_step (commands.Begin level) = true
-is_one_step commands.Commit = true
-is_one_step commands.Rollback = true
-is_one_step (commands.Open handle table key column) = true
-is_one_step (commands.Close handle) = true
-is_one_step command = false
-
 -- a turn where no command is left does nothing
 pub record Rests (t : TurnMade) : Type 0 where
   pub entry : t.entry ≡ None
@@ -127,12 +129,120 @@ places_by (told ∷ tolds) (seat ∷ seats) = record { begun = told.begun; under
 abbrev pub places_in : HubState → List Place
 places_in hub = places_by (run_of hub.script hub.journal).told hub.core.seats
 
--- a hub has made these turns
+-- ---- one event of the core
+
+-- an event of a session, in a core of which is true what is of every core
+pub record MakesEvent (old : CoreState) (s : ℕ) (new : CoreState) (advance : Advance) : Type 0 where
+  pub sound : IsCore old
+  pub event : Event old s new advance
+
+-- a command was submitted, and its moment came: what it is to the plain store, and the event that was made
+pub record MakesFirst (old : CoreState) (s : ℕ) (command : Command) (new : CoreState) (advance : Advance) : Type 0 where
+  pub runs : Runs old s command new advance
+  pub stands : StandsOn old (after_submit old s command)
+  pub event : MakesEvent (after_submit old s command) s new advance
+
+-- a moment after which its command goes on, or is over
+abbrev pub MomentEnds : End → CoreState → ℕ → Command → CoreState → Type 0
+MomentEnds Nothing old s command new = ⊥
+MomentEnds More old s command new = MakesFirst old s command new advances.More
+MomentEnds Ended old s command new = (reply : Reply) × MakesFirst old s command new (advances.Done reply)
+
+-- a command is submitted, and its moment is made; or memory is wanting for one of the two, and the session's transaction has failed
+abbrev pub EventFirst : Kind → End → CoreState → ℕ → Command → CoreState → Type 0
+EventFirst kinds.Run end old s command new = MomentEnds end old s command new
+EventFirst kinds.Memory end old s command new = (new ≡ after_failing old s) ⊎ FailsBy (after_submit old s command) s new
+EventFirst kind end old s command new = ⊥
+
+-- a step by which a command ends early: a draw that finds every id in use, or one for which memory is wanting
+abbrev pub EventCut : Kind → CoreState → ℕ → CoreState → Type 0
+EventCut kinds.NoValueId old s new = MakesEvent old s new (advances.Done replies.NoValueId)
+EventCut kinds.Memory old s new = FailsBy old s new
+EventCut kind old s new = ⊥
+
+-- a step that ends its command with the reply of its moment
+pub record EventLast (old : CoreState) (s : ℕ) (new : CoreState) : Type 0 where
+  pub reply : Reply
+  pub other : reply ≢ replies.NoValueId
+  pub event : MakesEvent old s new (advances.Done reply)
+
+-- a step of the command under way, by the entry of its turn, if there is one
+abbrev pub EventLater : Option JournalEntry → End → CoreState → ℕ → CoreState → Type 0
+EventLater None Nothing old s new = ⊥
+EventLater None More old s new = MakesEvent old s new advances.More
+EventLater None Ended old s new = EventLast old s new
+EventLater (Some e) end old s new = EventCut e.kind old s new
+
+-- the same of the turn that begins a command, whose entry tells of its moment
+abbrev pub EventBegins : Option JournalEntry → End → CoreState → ℕ → Command → CoreState → Type 0
+EventBegins None end old s command new = ⊥
+EventBegins (Some e) end old s command new = EventFirst e.kind end old s command new
+
+-- the same of a turn that does not go on with a command, by the session's next command
+abbrev pub EventNext : Option Command → TurnMade → CoreState → CoreState → Type 0
+EventNext None t old new = new ≡ old
+EventNext (Some command) t old new = EventBegins t.entry t.end old t.session command new
+
+-- the same of any turn, by whether a command of its session is under way, and by the command that is next if not
+abbrev pub EventBy : Bool → Option Command → TurnMade → CoreState → CoreState → Type 0
+EventBy true next t old new = EventLater t.entry t.end old t.session new
+EventBy false next t old new = EventNext next t old new
+
+-- the command that a session begins next
+abbrev pub next_of : HubState → ℕ → Option Command
+next_of hub s = command_at hub.script s ((place_of (places_in hub) s).begun + 1)
+
+-- what is true of every hub, where one of its sessions takes a turn
+pub record IsAtTurn (hub : HubState) (s : ℕ) : Type 0 where
+  pub there : IsSession hub.core.seats s
+  pub schemas : schemas_of hub.core.tables ≡ hub.script.schemas
+  pub told : s - 1 < length (replies_of (run_of hub.script hub.journal))
+  pub stands : Stands hub.core (run_of hub.script hub.journal).plain (replies_of (run_of hub.script hub.journal))
+  pub under_way : (place_of (places_in hub) s).under_way ≡ is_past_moment (seat_of hub.core s).job
+
+-- one turn leads from a hub to another
+pub record TurnLeads (old : HubState) (t : TurnMade) (new : HubState) : Type 0 where
+  pub script : new.script ≡ old.script
+  -- its entry, if it has one, stands behind the journal
+  pub journal : new.journal ≡ old.journal ++ entry_in t.entry
+  -- it is a turn where its session is
+  pub turn : IsTurn old.script (run_of old.script old.journal) (place_of (places_in old) t.session) t
+  -- it made one event of the core and no more, behind a submit where nothing was under way
+  pub event : EventBy (place_of (places_in old) t.session).under_way (next_of old t.session) t old.core new.core
+  -- in a hub as every hub is, and the other sessions stay as they were
+  pub at : IsAtTurn old t.session
+  pub others : OthersStay old.core t.session new.core
+  pub places : places_in new ≡ after_turn (places_in old) t
+
+-- turns lead from a hub to another, each from the hub that the one before it left
+abbrev pub Leads : HubState → List TurnMade → HubState → Type 0
+Leads old [] new = new ≡ old
+Leads old (t ∷ ts) new = (mid : HubState) × TurnLeads old t mid × Leads mid ts new
+
+-- ---- turns of a hub
+
+-- a hub has made these turns, and no others
 pub record Ran (old new : HubState) (turns : List TurnMade) : Type 0 where
+  pub chain : Leads old turns new
+  -- what follows for the script, the journal and the places
   pub script : new.script ≡ old.script
   pub journal : new.journal ≡ old.journal ++ entries_of turns
   pub each : AreTurns old.script (run_of old.script old.journal) (places_in old) turns
   pub places : places_in new ≡ after_turns (places_in old) turns
+
+-- a hub before its first turn
+abbrev pub first_hub : Script → HubState
+first_hub script = record {
+  script = script;
+  core = first_core script.schemas script.low script.high (length script.sessions);
+  journal = [];
+  kept = [];
+}
+
+-- a hub was made by turns from the first one on, and by nothing else
+pub record HasTurned (hub : HubState) : Type 0 where
+  pub turns : List TurnMade
+  pub ran : Ran (first_hub hub.script) hub turns
 
 -- how an answer says that a turn ended
 abbrev pub end_of : Turn → End

@@ -1,5 +1,5 @@
 // A hub: a script, the store that runs it, and the journal of what came of its commands.
-ghost use Rattle.std.specs.Prelude.{◌≡◌, ◌+◌, ◌++◌, ◌-◌, ◌*◌, ◌<◌, ◌≤◌, ◌∷◌, ◌^◌, [], false, length, IfOk, IsTrue, MatchBool, None, Some, true, option_and_then, replicate, slice_get, slice_index_or, slice_set, vec_capacity, vec_len, if◌then◌else◌};
+ghost use Rattle.std.specs.Prelude.{◌≡◌, ◌+◌, ◌++◌, ◌-◌, ◌*◌, ◌<◌, ◌≤◌, ◌∷◌, ◌^◌, [], false, length, IfOk, IsTrue, MatchBool, None, OnErr, OnOk, Some, true, option_and_then, replicate, slice_get, slice_index_or, slice_set, vec_capacity, vec_len, if◌then◌else◌};
 ghost use Rattle.std.specs.Option.{option_copied, option_map};
 ghost use Rattle.command_set.specs.Journals.{command_at, is_complete, is_legal};
 ghost use Rattle.script_text.specs.Scripts.{command_count};
@@ -7,15 +7,16 @@ ghost use Rattle.core_state.specs.Events.{left};
 ghost use Rattle.core_state.specs.State.{is_past_moment, seat_of};
 ghost use Rattle.session_shell.specs.Lines.{no_line, with_reply};
 
-use crate::print::text_of;
+use crate::print::print_lines;
 use crate::steps::{First, Later, first_step, later_step};
 use command_set::values::nth;
 use command_set::{Command, Item, JournalEntry, Reply, Script};
 use core_state::seat::Job;
+use line_printer::Printer;
 use std::alloc::{AllocError, Global};
 use std::marker::Model;
 use toast_core::{Core, Setup, Under};
-use toast_io::Bytes;
+use toast_io::{Failed, Sink};
 use tuple_layout::copy_of_schemas;
 
 /// What a turn of a session has come to.
@@ -61,19 +62,26 @@ impl Model for Hub {
     ghost use Rattle.std.specs.Prelude.{◌*◌, ◌≤◌, vec_capacity};
     ghost use Rattle.script_text.specs.Scripts.{command_count};
     ghost use Rattle.session_shell.specs.Hubs.{HubState, IsHub};
+    ghost use Rattle.session_shell.specs.Turns.{HasTurned};
+    ghost use Rattle.draw_counts.specs.Drawn.{IsDrawn};
 
     ghost Value = { HubState };
 
     ghost view = { λ hub. record { script = hub.script; core = hub.core; journal = hub.journal.items; kept = hub.kept.items } };
 
-    ghost invariant = { λ hub. IsHub (record { script = hub.script; core = hub.core; journal = hub.journal.items; kept = hub.kept.items }) hub.progress.items × (2 * command_count hub.script ≤ vec_capacity hub.journal) × (2 * command_count hub.script ≤ vec_capacity hub.kept) };
+    ghost invariant = { λ hub. IsHub (record { script = hub.script; core = hub.core; journal = hub.journal.items; kept = hub.kept.items }) hub.progress.items × (2 * command_count hub.script ≤ vec_capacity hub.journal) × (2 * command_count hub.script ≤ vec_capacity hub.kept) × HasTurned (record { script = hub.script; core = hub.core; journal = hub.journal.items; kept = hub.kept.items }) × IsDrawn hub.script hub.core hub.journal.items };
 }
 
 impl Hub {
-    ghost use Rattle.session_shell.specs.Hubs.{IsScript, IsSessionOf, commands_of, session_in};
-    ghost use Rattle.session_shell.specs.Turns.{MakesTurn, at_start, place_of, places_in};
+    ghost use Rattle.session_shell.specs.Hubs.{IsScript, IsSessionOf, LastIsRun, TellsHub, commands_of, session_in};
+    ghost use Rattle.session_shell.specs.Turns.{HasTurned, MakesTurn, at_start, first_hub, place_of, places_in};
     ghost use Rattle.session_shell.specs.Text.{text_of};
-    ghost use Rattle.session_shell.specs.Follows.{EmptiesSession, EndsSession, IsIdle, RunsEmptying, RunsEnding, RunsFinish, RunsItem, RunsItems, RunsWhole, items_in, items_of, passage_at};
+    ghost use Rattle.std.specs.Io.KnownBytes.{Appends};
+    ghost use Rattle.toast_io.specs.Faults.{HasRisen, NeverFalls};
+    ghost use Rattle.toast_io.specs.Sink.{AppendsPart};
+    ghost use Rattle.line_printer.specs.Carried.{first_printer};
+    ghost use Rattle.draw_counts.specs.Drawn.{ReachesIds};
+    ghost use Rattle.session_shell.specs.Follows.{EmptiesSession, EndsSession, IsIdle, IsOfTurns, RunsEmptying, RunsEnding, RunsFinish, RunsItem, RunsItems, RunsWhole, items_in, items_of, passage_at};
 
     /// A hub whose sessions have begun nothing.
     ///
@@ -81,6 +89,7 @@ impl Hub {
     /// recorded where there is no memory left.
     pub fn new(alloc: Global, script: Script) -> Result<Hub, AllocError>
         requires { IsScript script }
+        ensures first { IfOk result (λ hub. hub ≡ first_hub script) }
         ensures script { IfOk result (λ hub. hub.script ≡ script) }
         ensures journal { IfOk result (λ hub. hub.journal ≡ []) }
         ensures places { IfOk result (λ hub. places_in hub ≡ replicate (length script.sessions) at_start) }
@@ -112,14 +121,16 @@ impl Hub {
     }
 
     /// One turn of a session: its next command is submitted if none is under way, and then one event is
-    /// made.
+    /// made, and no more.
     ///
     /// A draw that finds no value id ends the command, and so does want of memory, as the journal then
     /// tells.
     pub fn turn(&mut self, session: u16) -> Turn
         requires { IsSessionOf self.old.script session }
         ensures made { MakesTurn self.old session self.new result }
+        ensures own { TellsHub self.new }
         ensures legal { IsTrue (is_legal self.new.script self.new.journal) }
+        ensures cause { result ≡ Turn.More → LastIsRun self.new session }
         ensures left { is_past_moment (seat_of self.old.core session).job ≡ true → result ≡ Turn.More → left self.new.core session < left self.old.core session }
         ensures under_way { result ≡ Turn.More → is_past_moment (seat_of self.new.core session).job ≡ true }
     {
@@ -134,7 +145,8 @@ impl Hub {
         requires session { IsSessionOf self.old.script session }
         requires idle { (seat_of self.old.core session).job ≡ Job.Idle }
         ensures made { MakesTurn self.old session self.new result }
-        ensures legal { IsTrue (is_legal self.new.script self.new.journal) }
+        ensures own { TellsHub self.new }
+        ensures cause { result ≡ Turn.More → LastIsRun self.new session }
         ensures under_way { result ≡ Turn.More → is_past_moment (seat_of self.new.core session).job ≡ true }
     {
         let at = (session - 1) as usize;
@@ -161,7 +173,8 @@ impl Hub {
         requires session { IsSessionOf self.old.script session }
         requires under_way { is_past_moment (seat_of self.old.core session).job ≡ true }
         ensures made { MakesTurn self.old session self.new result }
-        ensures legal { IsTrue (is_legal self.new.script self.new.journal) }
+        ensures own { TellsHub self.new }
+        ensures cause { result ≡ Turn.More → LastIsRun self.new session }
         ensures left { result ≡ Turn.More → left self.new.core session < left self.old.core session }
         ensures under_way { result ≡ Turn.More → is_past_moment (seat_of self.new.core session).job ≡ true }
     {
@@ -289,6 +302,7 @@ impl Hub {
         ensures ran { RunsFinish self.old self.new }
         ensures legal { IsTrue (is_legal self.new.script self.new.journal) }
         ensures complete { IsTrue (is_complete self.new.script self.new.journal) }
+        ensures draws { ReachesIds self.new.script self.new.journal }
         ensures idle { IsIdle self.new }
     {
         self.end_all();
@@ -323,6 +337,7 @@ impl Hub {
         ensures ran { RunsEmptying self.old self.new }
         ensures idle { IsIdle self.new }
         ensures complete { IsTrue (is_complete self.new.script self.new.journal) }
+        ensures draws { ReachesIds self.new.script self.new.journal }
         ensures legal { IsTrue (is_legal self.new.script self.new.journal) }
     {
         for at in 0..self.script.sessions.len() {
@@ -356,26 +371,39 @@ impl Hub {
         begun < self.script.sessions.as_slice()[at].len()
     }
 
-    /// The journal so far.
+    /// The journal so far: that of the turns that have made the hub.
     pub fn journal(&self) -> &[JournalEntry]
         ensures entries { result.now ≡ self.now.journal }
+        ensures own { TellsHub self.now }
+        ensures turned { HasTurned self.now }
+        ensures follows { IsOfTurns self.now.script self.now.journal }
+        ensures draws { ReachesIds self.now.script self.now.journal }
         ensures legal { IsTrue (is_legal self.now.script self.now.journal) }
     {
         &self.journal
     }
 
-    /// The text of the printed lines, where nothing is under way.
-    pub(crate) fn text(&self, alloc: Global) -> Result<Bytes, AllocError>
-        requires { IsIdle self.now }
-        ensures { IfOk result (λ text. text ≡ text_of self.now.script self.now.journal) }
+    /// Writes the printed lines, where nothing is under way, by way of a new printer. After `Failed` some
+    /// first bytes of their text may have been written, and never all.
+    pub(crate) fn print<K: Sink>(&self, printer: Printer, sink: &mut K) -> Result<(), Failed>
+        requires idle { IsIdle self.now }
+        requires first { printer ≡ first_printer }
+        ensures ok { OnOk result (Appends (K.written sink.old) (K.written sink.new) (text_of self.now.script self.now.journal)) }
+        ensures failed { OnErr result (AppendsPart (K.written sink.old) (K.written sink.new) (text_of self.now.script self.now.journal)) }
+        ensures count { NeverFalls (K.faults sink.old) (K.faults sink.new) }
+        ensures cause { OnErr result (HasRisen (K.faults sink.old) (K.faults sink.new)) }
     {
-        let text = text_of(alloc, &self.kept)?;
-        Ok(text)
+        let mut printer = printer;
+        print_lines(&mut printer, sink, &self.kept);
+        printer.finish(sink)?;
+        Ok(())
     }
 
-    /// The reply of a line, from 0, if it is there and known.
+    /// The reply of a line, from 0, if it is there and known: the journal's lines have it, and that of a read
+    /// under way is not known before the read's end.
     pub fn reply(&self, line: u32) -> Option<&Reply>
-        ensures { option_copied result ≡ option_and_then (λ line. line.reply) (slice_get self.now.kept line) }
+        ensures own { TellsHub self.now }
+        ensures reply { option_copied result ≡ option_and_then (λ line. line.reply) (slice_get self.now.kept line) }
     {
         self.kept.get(line as usize)?.reply.as_ref()
     }

@@ -1,24 +1,24 @@
 // The printed lines of a hub.
-ghost use Rattle.std.specs.Prelude.{◌≡◌, IfOk};
 ghost use Rattle.std.specs.List.{flat_map};
+ghost use Rattle.line_printer.specs.Carried.{Prints, told};
 ghost use Rattle.session_shell.specs.Text.{AreSaid, said_text};
 
 use crate::hub::KeptLine;
-use std::alloc::{AllocError, Global};
-use toast_io::Bytes;
-use transcript::print_reply;
+use line_printer::Printer;
+use toast_io::Sink;
 
-/// The text of lines whose replies are all known.
-pub fn text_of(alloc: Global, kept: &[KeptLine]) -> Result<Bytes, AllocError>
+/// Prints lines whose replies are all known. Once a write has failed nothing more is printed.
+pub fn print_lines<K: Sink>(printer: &mut Printer, sink: &mut K, kept: &[KeptLine])
     requires { AreSaid kept.now }
-    ensures { IfOk result (λ text. text ≡ flat_map said_text kept.now) }
+    ensures { Prints (told (K.written sink.old) (K.faults sink.old)) (told (K.written sink.new) (K.faults sink.new)) printer.old printer.new (flat_map said_text kept.now) }
 {
-    let mut text = Bytes::new(alloc);
     for line in kept {
+        if printer.has_failed() {
+            return;
+        }
         match &line.reply {
-            Some(reply) => print_reply(alloc, line.session, line.number, reply, &mut text)?,
+            Some(reply) => printer.print_reply(sink, line.session, line.number, reply),
             None => unreachable!(),
         }
     }
-    Ok(text)
 }

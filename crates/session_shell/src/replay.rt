@@ -6,15 +6,17 @@ ghost use Rattle.script_words.specs.declared.fault.LineFault.{LineFault};
 ghost use Rattle.script_text.specs.declared.fault.ScriptFault.TheVariants as scripts;
 ghost use Rattle.toast_io.specs.Faults.{HasRisen, NeverFalls};
 ghost use Rattle.toast_io.specs.Source.{Takes};
+ghost use Rattle.line_printer.specs.Carried.{first_printer};
 ghost use Rattle.session_shell.specs.Hubs.{IsScript};
 ghost use Rattle.session_shell.specs.Follows.{IsIdle};
-ghost use Rattle.session_shell.specs.Replay.{HasRun, PrintsBy, ReadsByAnswer, ReadsNoScript, Replays, TellsWhole, Told, WritesNothing, WritesPart, WritesSome, WritesText, has_want, is_want, replay_words};
+ghost use Rattle.session_shell.specs.Replay.{HasRun, PrintsBy, ReadsByAnswer, ReadsNoScript, Replays, TellsWhole, Told, WritesNothing, WritesPart, WritesText, WritesWanting, has_want, is_want, replay_words};
 
 use crate::{Hub, Status};
 use command_set::{JournalEntry, Kind, Script};
+use line_printer::Printer;
 use script_text::{ScriptFault, parse_script};
 use std::alloc::{AllocError, Global};
-use toast_io::{BytesList, Failed, ReadAllFault, Sink, Source, read_all, write_all};
+use toast_io::{BytesList, Failed, ReadAllFault, Sink, Source, read_all};
 
 // The most bytes of a script.
 const LONGEST_SCRIPT: usize = 4_194_304;
@@ -23,8 +25,8 @@ const LONGEST_SCRIPT: usize = 4_194_304;
 /// store, and writes the replies to the sink. The hub that ran the script is left in `kept`.
 ///
 /// First comes `Usage`, then `ReadFault` or `TooLong`, then `BadScript`; nothing is written before the
-/// whole script was read and run. Where a command wanted memory its line says so, and the status is
-/// `Memory`.
+/// whole script was read and run, and the buffer that the lines go through was made. Where a command
+/// wanted memory its line says so, and the status is `Memory`.
 pub fn toast_replay<S: Source, K: Sink>(
     alloc: Global,
     words: &BytesList,
@@ -42,8 +44,9 @@ pub fn toast_replay<S: Source, K: Sink>(
     // a part of it, or nothing.
     ensures done { result ≡ Status.Done → WritesText (S.left source.old) (S.left source.new) (K.written sink.old) (K.written sink.new) kept.new }
     ensures write_fault { result ≡ Status.WriteFault → WritesPart (S.left source.old) (S.left source.new) (K.written sink.old) (K.written sink.new) kept.new }
-    ensures memory { result ≡ Status.Memory → WritesNothing (K.written sink.old) (K.written sink.new) kept.new ⊎ WritesSome (S.left source.old) (S.left source.new) (K.written sink.old) (K.written sink.new) kept.new }
+    ensures memory { result ≡ Status.Memory → WritesNothing (K.written sink.old) (K.written sink.new) kept.new ⊎ WritesWanting (S.left source.old) (S.left source.new) (K.written sink.old) (K.written sink.new) kept.new }
     ensures unwritten { result ≢ Status.Done → result ≢ Status.WriteFault → result ≢ Status.Memory → WritesNothing (K.written sink.old) (K.written sink.new) kept.new }
+    ensures untouched { kept.new ≡ None → sink.new ≡ sink.old }
 
     // The causes of the other statuses. Want of memory is free.
     ensures read_cause { result ≡ Status.ReadFault → HasRisen (S.faults source.old) (S.faults source.new) }
@@ -85,6 +88,7 @@ fn replay<S: Source, K: Sink>(
 ) -> Status
     requires { kept.old ≡ None }
     ensures outcome { Replays (record { left = S.left source.old; left' = S.left source.new; reads = S.faults source.old; reads' = S.faults source.new; written = K.written sink.old; written' = K.written sink.new; writes = K.faults sink.old; writes' = K.faults sink.new; kept' = kept.new }) result }
+    ensures untouched { kept.new ≡ None → sink.new ≡ sink.old }
     ensures source_count { NeverFalls (S.faults source.old) (S.faults source.new) }
     ensures sink_count { NeverFalls (K.faults sink.old) (K.faults sink.new) }
 {
@@ -92,9 +96,13 @@ fn replay<S: Source, K: Sink>(
         Ok(script) => script,
         Err(status) => return status,
     };
+    let printer = match Printer::new(alloc) {
+        Ok(printer) => printer,
+        Err(_) => return Status::Memory,
+    };
     match run_script(alloc, script) {
         Ok(hub) => {
-            let status = print_hub(alloc, &hub, sink);
+            let status = print_hub(&hub, printer, sink);
             *kept = Some(hub);
             status
         }
@@ -133,17 +141,14 @@ fn run_script(alloc: Global, script: Script) -> Result<Hub, AllocError>
     Ok(hub)
 }
 
-// Writes the lines of a hub with nothing under way.
-fn print_hub<K: Sink>(alloc: Global, hub: &Hub, sink: &mut K) -> Status
-    requires { IsIdle hub.now }
+// Writes the lines of a hub with nothing under way, by way of a new printer.
+fn print_hub<K: Sink>(hub: &Hub, printer: Printer, sink: &mut K) -> Status
+    requires idle { IsIdle hub.now }
+    requires first { printer ≡ first_printer }
     ensures prints { PrintsBy hub.now (K.written sink.old) (K.written sink.new) (K.faults sink.old) (K.faults sink.new) result }
     ensures count { NeverFalls (K.faults sink.old) (K.faults sink.new) }
 {
-    let text = match hub.text(alloc) {
-        Ok(text) => text,
-        Err(_) => return Status::Memory,
-    };
-    match write_all(sink, text.as_slice()) {
+    match hub.print(printer, sink) {
         Ok(()) => {
             if wants_memory(hub.journal()) {
                 Status::Memory

@@ -13,3 +13,10 @@ returns-in-Ok-run_script-clause-outcome g c = replays_by _ c.in-Ok.script c.in-O
 -- there was no memory for a hub
 pub returns-in-Err-run_script-clause-outcome : goal.returns-in-Err-run_script-clause-outcome
 returns-in-Err-run_script-clause-outcome g c = (taken_whole _ _ _ c.in-Ok.ensures.reads.whole, inl (record { same = refl; none = c.requires }))
+
+pub returns-in-Ok-run_script-clause-untouched : goal.returns-in-Ok-run_script-clause-untouched
+returns-in-Ok-run_script-clause-untouched g c = λ none. absurd (cc)
+
+-- there was no memory for the buffer
+pub returns-in-Err-new-clause-outcome : goal.returns-in-Err-new-clause-outcome
+returns-in-Err-new-clause-outcome g c = (taken_whole _ _ _ c.in-Ok.ensures.reads.whole, inl (record { same = refl; none = c.requires }))

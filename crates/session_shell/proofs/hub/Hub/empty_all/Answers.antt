@@ -1,6 +1,7 @@
 use Rattle.std.proofs.Common.{◌≡◌, ℕ, true, ◌+◌, ◌≤◌, arith, length, ap, sym, subst, ◌∙◌}
 use Rattle.command_set.specs.declared.Script.{Script}
 use Rattle.command_set.specs.Journals.{is_complete, is_legal}
+use Rattle.draw_counts.specs.Drawn.{ReachesIds}
 use Rattle.session_shell.specs.Hubs.{HubState}
 use Rattle.session_shell.specs.Turns.{places_in}
 use Rattle.session_shell.specs.Follows.{IsOver}
@@ -44,3 +45,6 @@ returns-clause-complete c =
 
 pub returns-clause-legal : goal.returns-clause-legal
 returns-clause-legal c = subst (λ (hub : HubState). is_legal hub.script hub.journal ≡ true) c.self-2.view_is c.self-2.invariant.0.legal
+
+pub returns-clause-draws : goal.returns-clause-draws
+returns-clause-draws c = subst (λ (hub : HubState). ReachesIds hub.script hub.journal) c.self-2.view_is c.self-2.invariant.4.reached

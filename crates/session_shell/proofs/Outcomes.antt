@@ -1,9 +1,11 @@
 -- What a replay's words and outcomes say.
-use Rattle.std.proofs.Common.{◌≡◌, ◌≤◌, ℕ, Bool, List, [], ◌∷◌, length, get_or, drop, length-drop, Option, Some, None, Result, Ok, Err, ◌⊎◌, inl, inr, refl, sym, ap, ◌∙◌, arith, subst}
-use Rattle.std.specs.Prelude.{IsTrue, ◌↔◌}
-use Rattle.std.specs.Str.{bytes_eq}
-use Rattle.std.proofs.lemmas.Slice.Eq.{bytes_eq-Decides}
+use Rattle.std.proofs.Common.{◌≡◌, ◌≤◌, ℕ, List, length, drop, length-drop, Option, Some, None, Result, Ok, Err, ◌⊎◌, inl, inr, refl, sym, ap, ◌∙◌, arith, subst}
+use Rattle.std.specs.Prelude.{IsTrue, ◌↔◌, ◌≢◌, true, false}
 use Rattle.std.proofs.Math.Seq.{drop-length}
+use Rattle.command_words.specs.Commands.{command_in}
+use Rattle.command_words.specs.declared.CommandWords.{CommandWords}
+use Rattle.command_words.specs.declared.CommandWords.TheVariants as commands
+use Rattle.command_words.proofs.Spelled.{commands_spelled}
 use Rattle.toast_io.specs.Source.{Takes, TakesUpTo}
 use Rattle.toast_io.specs.ReadAll.{IsWhole}
 use Rattle.toast_io.proofs.Told.{told_whole, told_taken}
@@ -18,15 +20,12 @@ use Rattle.session_shell.specs.Replay.{replay_words, HasRun, PrintsBy, ReadsScri
 use Rattle.session_shell.specs.declared.Status.{Status}
 use Rattle.session_shell.specs.declared.Status.TheVariants.{Done, Usage, BadScript, ReadFault, WriteFault, TooLong, Memory}
 
--- the one word of a list of words is `replay`
-pub one_word : (words slice : List (List ℕ)) (item word text : List ℕ) (same : Bool) → slice ≡ words → length slice ≡ 1 → item ≡ get_or slice 0 item → word ≡ item → text ≡ 114 ∷ 101 ∷ 112 ∷ 108 ∷ 97 ∷ 121 ∷ [] → same ≡ bytes_eq word text → IsTrue same ↔ (words ≡ replay_words)
-one_word words [] item word text same w one i u t e = absurd (omega (arith, one))
-one_word words (a ∷ []) item word text same w one i u t e =
-    let decides = bytes_eq-Decides word text in (
-      λ yes. sym w ∙ ap (λ (first : List ℕ). first ∷ []) (sym i ∙ sym u ∙ decides.0 (sym e ∙ yes) ∙ t),
-      λ is. e ∙ decides.1 (u ∙ i ∙ ap (λ (ws : List (List ℕ)). get_or ws 0 []) (w ∙ is) ∙ sym t),
-    )
-one_word words (a ∷ b ∷ rest) item word text same w one i u t e = absurd (omega (arith, one))
+-- words are read as `replay` exactly where they are that one word
+pub read_replay : (words : List (List ℕ)) → command_in words ≡ Some commands.Replay → IsTrue true ↔ (words ≡ replay_words)
+read_replay words is = (λ yes. ((commands_spelled words commands.Replay).0 is).1, λ same. refl)
+
+pub read_other : (words : List (List ℕ)) (read : Option CommandWords) → read ≡ command_in words → read ≢ Some commands.Replay → IsTrue false ↔ (words ≡ replay_words)
+read_other words read is other = (λ no. absurd (cc), λ same. absurd (other (is ∙ (commands_spelled words commands.Replay).1 (tt, same))))
 
 -- all that was left is taken
 pub taken_whole : (old new : Option (List ℕ)) (bytes : List ℕ) → IsWhole 4194304 old new bytes → TakesUpTo old new 4194304

@@ -2,6 +2,7 @@ pub mod Lines
 pub mod Hubs
 pub mod Steps
 pub mod Turns
+pub mod History
 pub mod Owed
 pub mod Follows
 pub mod Text

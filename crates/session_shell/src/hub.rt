@@ -53,7 +53,7 @@ pub struct Progress {
 pub struct Hub {
     pub(crate) script: Script,
     core: Core,
-    journal: Vec<JournalEntry>,
+    pub(crate) journal: Vec<JournalEntry>,
     kept: Vec<KeptLine>,
     progress: Vec<Progress>,
 }
@@ -300,6 +300,7 @@ impl Hub {
     /// and then each takes turns until it has no command left.
     pub fn finish(&mut self)
         ensures ran { RunsFinish self.old self.new }
+        ensures follows { IsOfTurns self.new.script self.new.journal }
         ensures legal { IsTrue (is_legal self.new.script self.new.journal) }
         ensures complete { IsTrue (is_complete self.new.script self.new.journal) }
         ensures draws { ReachesIds self.new.script self.new.journal }
@@ -335,6 +336,7 @@ impl Hub {
     fn empty_all(&mut self)
         requires { IsIdle self.old }
         ensures ran { RunsEmptying self.old self.new }
+        ensures follows { IsOfTurns self.new.script self.new.journal }
         ensures idle { IsIdle self.new }
         ensures complete { IsTrue (is_complete self.new.script self.new.journal) }
         ensures draws { ReachesIds self.new.script self.new.journal }

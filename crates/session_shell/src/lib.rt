@@ -1,6 +1,7 @@
 //! The session shell: from a script's bytes to the printed replies of its commands.
 #![tactic(auto)]
 
+mod history;
 mod hub;
 mod print;
 mod replay;
@@ -9,7 +10,7 @@ mod steps;
 mod tests;
 
 pub use hub::{Hub, KeptLine, Progress, Turn};
-pub use replay::toast_replay;
+pub use replay::{print_hub, read_script, toast_replay};
 pub use toast_io::{Bytes, BytesList};
 
 /// What came of a call.

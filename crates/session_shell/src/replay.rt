@@ -13,6 +13,7 @@ ghost use Rattle.session_shell.specs.Replay.{HasRun, PrintsBy, ReadsByAnswer, Re
 
 use crate::{Hub, Status};
 use command_set::{JournalEntry, Kind, Script};
+use command_words::{CommandWords, read_words};
 use line_printer::Printer;
 use script_text::{ScriptFault, parse_script};
 use std::alloc::{AllocError, Global};
@@ -73,9 +74,11 @@ pub fn toast_replay<S: Source, K: Sink>(
 fn is_replay(words: &BytesList) -> bool
     ensures { IsTrue result ↔ (words.now ≡ replay_words) }
 {
-    match words.as_slice() {
-        [word] => word.as_slice() == b"replay".as_slice(),
-        _ => false,
+    match read_words(words) {
+        Some(CommandWords::Replay) => true,
+        Some(CommandWords::Run) => false,
+        Some(CommandWords::Make(_)) => false,
+        None => false,
     }
 }
 
@@ -110,8 +113,12 @@ fn replay<S: Source, K: Sink>(
     }
 }
 
-// Reads a whole script.
-fn read_script<S: Source>(alloc: Global, source: &mut S) -> Result<Script, Status>
+/// Reads a whole script from the source, which is read to its end unless it has more than 4,194,304 bytes.
+///
+/// # Errors
+///
+/// `ReadFault`, `TooLong`, `BadScript` with the first bad line, or `Memory`.
+pub fn read_script<S: Source>(alloc: Global, source: &mut S) -> Result<Script, Status>
     ensures reads { ReadsByAnswer (S.left source.old) (S.left source.new) result }
     ensures count { NeverFalls (S.faults source.old) (S.faults source.new) }
     ensures cause { IsErrOf result Status.ReadFault → HasRisen (S.faults source.old) (S.faults source.new) }
@@ -141,8 +148,9 @@ fn run_script(alloc: Global, script: Script) -> Result<Hub, AllocError>
     Ok(hub)
 }
 
-// Writes the lines of a hub with nothing under way, by way of a new printer.
-fn print_hub<K: Sink>(hub: &Hub, printer: Printer, sink: &mut K) -> Status
+/// Writes the lines of a hub with nothing under way, by way of a new printer. The status is `WriteFault` where a
+/// write failed, `Memory` where all was written and a command had wanted memory, and else `Done`.
+pub fn print_hub<K: Sink>(hub: &Hub, printer: Printer, sink: &mut K) -> Status
     requires idle { IsIdle hub.now }
     requires first { printer ≡ first_printer }
     ensures prints { PrintsBy hub.now (K.written sink.old) (K.written sink.new) (K.faults sink.old) (K.faults sink.new) result }

@@ -1,6 +1,15 @@
-use Rattle.std.proofs.Common.{arith}
-use Rattle.session_shell.proofs.Outcomes.{one_word}
+use Rattle.std.proofs.Common.{sym, ap, Some, ◌∙◌}
+use Rattle.session_shell.proofs.Outcomes.{read_other, read_replay}
 use Rattle.session_shell.proofs.replay.is_replay.Goals as goal
 
-pub returns-in-len1 : goal.returns-in-len1
-returns-in-len1 c = one_word _ _ _ _ _ _ c.as_slice.ensures (omega arith) c.word-item.is c.as_slice-in-len1.ensures c.as_slice-in-len1-2.ensures c.eq.ensures
+pub returns-in-Some-Replay : goal.returns-in-Some-Replay
+returns-in-Some-Replay c = read_replay c.args.words.now (sym c.read_words.ensures ∙ c.in-Some-Replay.is ∙ ap Some c.in-Some-Replay.field-0-is)
+
+pub returns-in-Some-Run : goal.returns-in-Some-Run
+returns-in-Some-Run c = read_other c.args.words.now c.read_words.result c.read_words.ensures (λ is. absurd (cc))
+
+pub returns-in-Some-Make : goal.returns-in-Some-Make
+returns-in-Some-Make c = read_other c.args.words.now c.read_words.result c.read_words.ensures (λ is. absurd (cc))
+
+pub returns-in-None : goal.returns-in-None
+returns-in-None c = read_other c.args.words.now c.read_words.result c.read_words.ensures (λ is. absurd (cc))

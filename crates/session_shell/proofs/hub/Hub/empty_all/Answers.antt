@@ -4,9 +4,10 @@ use Rattle.command_set.specs.Journals.{is_complete, is_legal}
 use Rattle.draw_counts.specs.Drawn.{ReachesIds}
 use Rattle.session_shell.specs.Hubs.{HubState}
 use Rattle.session_shell.specs.Turns.{places_in}
-use Rattle.session_shell.specs.Follows.{IsOver}
+use Rattle.session_shell.specs.Follows.{IsOfTurns, IsOver}
 use Rattle.session_shell.specs.contracts.hub.Hub.{the_view}
 use Rattle.session_shell.proofs.Finishing.{complete, emptying_all, emptying_more, emptying_none, over_all}
+use Rattle.session_shell.proofs.News.{of_turns}
 use Rattle.session_shell.proofs.hub.Hub.empty_all.Goals as goal
 
 pub loop-at-init : goal.loop-at-init
@@ -48,3 +49,6 @@ returns-clause-legal c = subst (λ (hub : HubState). is_legal hub.script hub.jou
 
 pub returns-clause-draws : goal.returns-clause-draws
 returns-clause-draws c = subst (λ (hub : HubState). ReachesIds hub.script hub.journal) c.self-2.view_is c.self-2.invariant.4.reached
+
+pub returns-clause-follows : goal.returns-clause-follows
+returns-clause-follows c = subst (λ (hub : HubState). IsOfTurns hub.script hub.journal) c.self-2.view_is (of_turns (the_view c.self-2.inside) c.self-2.invariant.3)

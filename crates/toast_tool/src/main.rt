@@ -1,12 +1,14 @@
-//! The program: its words, standard input and standard output go to the session shell, and a status
-//! other than 0 is told on standard error.
+//! The program: its words, standard input and standard output go to the top call, and a status other than 0
+//! is told on standard error.
 #![tactic(auto)]
 
-use session_shell::{Bytes, BytesList, Status, toast_replay};
 use std::process::ExitCode;
 use std::rt::Env;
+use std::sync::Wait;
+use std::thread::Threads;
 use std::{env, io};
-use toast_io::{StdSink, StdSource};
+use toast_io::{OpenGate, StdSink, StdSource};
+use toast_program::{Bytes, BytesList, Status, toast_main};
 
 fn main(rt: HostRuntime) -> ExitCode {
     let status = run(&rt);
@@ -15,7 +17,7 @@ fn main(rt: HostRuntime) -> ExitCode {
     ExitCode::from(exit_status(status))
 }
 
-fn run(rt: &(impl AllocGlobal + Env + Input + Print)) -> Status {
+fn run(rt: &(impl AllocGlobal + Env + Input + Print + Threads + Wait + Sync)) -> Status {
     let words = match words(rt) {
         Ok(words) => words,
         // A word that is no text is no word of a command.
@@ -25,7 +27,15 @@ fn run(rt: &(impl AllocGlobal + Env + Input + Print)) -> Status {
     let mut source = StdSource::new(rt.reader());
     let mut sink = StdSink::new(io::writer(rt));
     let mut kept = None;
-    toast_replay(rt.alloc(), &words, &mut source, &mut sink, &mut kept)
+    toast_main(
+        rt,
+        rt.alloc(),
+        &words,
+        &mut source,
+        &mut sink,
+        &OpenGate,
+        &mut kept,
+    )
 }
 
 // The words behind the program's name.
@@ -41,7 +51,7 @@ fn words(rt: &(impl AllocGlobal + Env)) -> io::Result<BytesList> {
 fn complain(rt: &impl Eprint, status: Status) -> io::Result<()> {
     match status {
         Status::Done => Ok(()),
-        Status::Usage => eprintln!(rt; "usage: toast_tool replay"),
+        Status::Usage => eprintln!(rt; "usage: toast_tool replay | run | make N"),
         Status::BadScript { line } => eprintln!(rt; "toast_tool: bad script, line {line}"),
         Status::ReadFault => eprintln!(rt; "toast_tool: read failed"),
         Status::WriteFault => eprintln!(rt; "toast_tool: write failed"),

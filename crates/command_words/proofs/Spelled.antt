@@ -1,6 +1,6 @@
 -- Numbers and words that are read, and those that are spelled.
-use Rattle.std.proofs.Common.{◌≡◌, ◌≤◌, ◌<◌, ◌^◌, ℕ, Bool, true, false, List, [], ◌∷◌, length, get_or, Option, Some, None, refl, sym, ap, ◌∙◌, arith, subst}
-use Rattle.std.specs.Prelude.{◌-◌, ◌&&◌, nat_le, codes, if◌then◌else◌}
+use Rattle.std.proofs.Common.{◌≡◌, ◌≤◌, ◌<◌, ◌^◌, ℕ, zero, suc, Bool, true, false, List, [], ◌∷◌, length, get_or, Option, Some, None, refl, sym, ap, ◌∙◌, arith, subst}
+use Rattle.std.specs.Prelude.{◌-◌, ◌==◌, ◌&&◌, ◌||◌, ◌↔◌, not, nat_lt, nat_le, slice_index, codes, if◌then◌else◌}
 use Rattle.std.specs.List.{list_all}
 use Rattle.std.specs.Option.{option_map}
 use Rattle.std.specs.Char.{is_ascii_digit}
@@ -15,7 +15,7 @@ use Rattle.std.proofs.lemmas.Slice.Eq.{bytes_eq-Decides}
 use Rattle.std.proofs.lemmas.Str.Parse.{IsDigitsTest, IsNumeralModel, numerals_by_value}
 use Rattle.script_words.specs.Numbers.{is_canonical, is_led, number_in}
 use Rattle.script_words.proofs.Spelled.{number_is}
-use Rattle.command_words.specs.Commands.{CommandsAreSpelled, IsCommand, command_in, spelled}
+use Rattle.command_words.specs.Commands.{CommandsAreSpelled, IsCommand, alone_in, command_in, numbered_in, spelled}
 use Rattle.command_words.specs.declared.CommandWords.{CommandWords}
 use Rattle.command_words.specs.declared.CommandWords.TheVariants.{Replay, Run, Make}
 

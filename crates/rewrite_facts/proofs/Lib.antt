@@ -1,0 +1,10 @@
+pub mod Orders
+pub mod Used
+pub mod Cells
+pub mod Widths
+pub mod Keeps
+pub mod Sizes
+pub mod Columns
+pub mod Steps
+pub mod Reading
+pub mod Values

@@ -1,0 +1,4 @@
+pub mod Copies
+pub mod Rewrites
+pub mod Holds
+pub mod Laws

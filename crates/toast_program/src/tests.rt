@@ -130,6 +130,14 @@ fn done<R: Threads + Wait + Sync>(
     let mut source = MemSource::new(alloc, bytes, 50, read_fails);
     let mut sink = MemSink::new(alloc, 10_000, write_fails)?;
     let mut kept = None;
-    let status = toast_main(rt, alloc, &list, &mut source, &mut sink, &OpenGate, &mut kept);
+    let status = toast_main(
+        rt,
+        alloc,
+        &list,
+        &mut source,
+        &mut sink,
+        &OpenGate,
+        &mut kept,
+    );
     Ok((status, sink))
 }

@@ -5,6 +5,8 @@ pub mod Widths
 pub mod Keeps
 pub mod Sizes
 pub mod Columns
+pub mod Chunks
 pub mod Steps
 pub mod Reading
 pub mod Values
+pub mod Left

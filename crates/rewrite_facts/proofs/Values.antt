@@ -1,9 +1,10 @@
 -- The steps of a value that goes out: it is shared, or comes on its way under its id, and its last piece is indexed; and the step of the version.
-use Rattle.std.proofs.Common.{◌≡◌, ◌≢◌, ℕ, ℤ, ◌+◌, ◌-◌, ◌<◌, ◌≤◌, inl, inr, Bool, true, false, ◌||◌, Option, Some, None, List, ◌∷◌, length, slice_get, refl, sym, ap, ◌∙◌, subst, arith}
+use Rattle.std.proofs.Common.{◌≡◌, ◌≢◌, ℕ, ℤ, ◌+◌, ◌-◌, ◌<◌, ◌≤◌, inl, inr, Bool, true, false, ◌||◌, Option, Some, None, List, ◌∷◌, length, slice_get, slice_set, refl, sym, ap, ◌∙◌, subst, arith}
 use Rattle.std.proofs.lemmas.Bool.{cases_eq, false≢true}
 use Rattle.std.proofs.lemmas.Option.{get_or_from_slice_get, none-some, same_Some}
 use Rattle.list_facts.proofs.Changed.{set_twice}
 use Rattle.list_facts.proofs.Members.{cases_in}
+use Rattle.slot_page.specs.declared.line.Tid.{Tid}
 use Rattle.external_pointer.specs.declared.external.Pointer.{Pointer}
 use Rattle.external_pointer.specs.Spelling.{IsInRange}
 use Rattle.tuple_layout.specs.declared.Storage.{Storage}
@@ -26,13 +27,15 @@ use Rattle.toast_store.proofs.Laying.{stands_begun, whole_laid}
 use Rattle.toast_store.proofs.Others.{pieces_step_leaves}
 use Rattle.table_state.specs.declared.table.Table.{Table}
 use Rattle.table_state.specs.Cells.{cells_in}
-use Rattle.rewrite_facts.specs.Copies.{Copied, IsCopy, IsIdOf, id_at, next_place, version_of, with_cells}
+use Rattle.rewrite_facts.specs.Chunks.{HasPointer, Made, UnderWay, cells_at, put_at, put_by}
+use Rattle.rewrite_facts.specs.Copies.{Copied, IsCopy, IsIdOf, IsNewPointer, id_at, next_place, version_of, with_cells}
 use Rattle.rewrite_facts.specs.Holds.{AreShared, CanGoOut, IsLaying, IsPlacing, RewriteHolds, StandsAt, pieces_under}
 use Rattle.rewrite_facts.specs.Rewrites.{Rewriting, at_stage, busy_at, column_at, is_used_in, restored, with_cell}
 use Rattle.rewrite_facts.specs.declared.stage.RowCopy.{RowCopy}
 use Rattle.rewrite_facts.specs.declared.stage.RewriteStage.{RewriteStage}
 use Rattle.rewrite_facts.specs.declared.stage.RewriteStage.TheVariants.{Visiting, Placing, Laying}
 use Rattle.rewrite_facts.proofs.Cells.{also_there, had_pointer, id_is, value_at}
+use Rattle.rewrite_facts.proofs.Chunks.{IsMore, chunks_made, chunks_over, chunks_shared}
 use Rattle.rewrite_facts.proofs.Columns.{all_out, column_out}
 use Rattle.rewrite_facts.proofs.Keeps.{Spares, placing_kept, shared_kept}
 use Rattle.rewrite_facts.proofs.Orders.{here_next, visited_copied}
@@ -87,7 +90,16 @@ pub hold_shared : (xacts : Xacts) (snaps : Snaps) (old : Table) (r : Rewriting) 
     → id_at copy.ids (column - 1) ≡ Some p.value_id → is_used r.toast p.value_id ≡ true → IsInRange p → p.size ≡ length value → p.toast_rel ≡ r.toast.rel.rel_id
     → RewriteHolds xacts snaps old r → RewriteHolds xacts snaps old (at_stage r (Placing (with_cell copy column (Out p)) columns (at + 1)))
 hold_shared xacts snaps old r copy columns at column p value stage here inline had used in_range size own holds = hold_restaged xacts snaps old r (Placing (with_cell copy column (Out p)) columns (at + 1)) (ap busy_at stage) refl (column_out old r.toast r.place copy columns at column p value here inline in_range whole (own ∙ holds.relation) id stands.0, stands.1) holds
+    (chunks_shared old.toast holds.copies r (Placing (with_cell copy column (Out p)) columns (at + 1)) (column - 1) p (sym (ap busy_at stage)) (sym (ap put_at stage)) more (λ unused. false≢true (sym unused ∙ used_old)) holds.chunks)
   where
+    more : IsMore r (at_stage r (Placing (with_cell copy column (Out p)) columns (at + 1))) (column - 1) p
+    more = record {
+      place = refl;
+      value = value;
+      inline = ap (λ (s : RewriteStage). slice_get (cells_at s) (column - 1)) stage ∙ inline;
+      cells = ap (λ (s : RewriteStage). slice_set (cells_at s) (column - 1) (Out p)) (sym stage);
+    }
+
     stands : StandsAt old r (Placing copy columns at)
     stands = subst (StandsAt old r) stage holds.stage
 
@@ -175,6 +187,7 @@ pub hold_over : (xacts : Xacts) (snaps : Snaps) (old : Table) (r : Rewriting) (c
 hold_over xacts snaps old r copy columns at column job after later p stage here sound step over in_range is holds =
     hold_changed xacts snaps old r later (Placing (with_cell copy column (Out p)) columns (at + 1)) spares shared relation
     (subst (λ (c : RowCopy). IsPlacing old later None r.place c columns (at + 1)) twice (column_out old later r.place full columns at column p job.value here inline in_range whole (ap (λ (q : Pointer). q.toast_rel) is ∙ relation ∙ holds.relation) id placed), stands.1.1) holds
+    (chunks_over old.toast holds.copies r (changed r later (Placing (with_cell copy column (Out p)) columns (at + 1))) job after (column - 1) p step laying.xid_is refl (ap busy_at stage) (ap put_at stage) (ap put_by (sym over)) more (ap (λ (q : Pointer). q.value_id) is ∙ same_id) fresh holds.chunks)
   where
     full : RowCopy
     full = restored copy columns at job.value
@@ -209,11 +222,30 @@ hold_over xacts snaps old r copy columns at column job after later p stage here 
     inline : slice_get full.cells (column - 1) ≡ Some (Inline job.value)
     inline = subst (λ (n : ℕ). slice_get full.cells (n - 1) ≡ Some (Inline job.value)) column_is laying.value
 
+    more : IsMore r (changed r later (Placing (with_cell copy column (Out p)) columns (at + 1))) (column - 1) p
+    more = record {
+      place = refl;
+      value = job.value;
+      inline = ap (λ (s : RewriteStage). slice_get (cells_at s) (column - 1)) stage ∙ inline;
+      cells = ap RowCopy.cells (sym twice) ∙ ap (λ (s : RewriteStage). slice_set (cells_at s) (column - 1) (Out p)) (sym stage);
+    }
+
     value : after.value ≡ job.value
     value = ap (λ (j : Piecing). j.value) step.job
 
     same_id : after.value_id ≡ job.value_id
     same_id = ap (λ (j : Piecing). j.value_id) step.job
+
+    -- the id of a value on its way is that of no pointer
+    fresh : (from : Tid) (n : ℕ) (q : Pointer) → HasPointer holds.copies r from n q → q.value_id ≡ p.value_id → ⊥
+    fresh from n q has same = by_has has
+      where
+        its : Some job.value_id ≡ Some q.value_id
+        its = ap (λ (i : ℕ). Some i) (sym (same ∙ ap (λ (x : Pointer). x.value_id) is ∙ same_id))
+
+        by_has : HasPointer holds.copies r from n q → ⊥
+        by_has (Made made held at_place there) = IsNewPointer.settled ((holds.made made held).new_one.pointers n q there) (ap busy_at stage ∙ its)
+        by_has (UnderWay at_place there) = IsNewPointer.settled (stands.0.new_one.pointers n q (ap (λ (s : RewriteStage). slice_get (cells_at s) n) (sym stage) ∙ there)) its
 
     id : IsIdOf old.toast (id_at copy.ids (column - 1)) p.value_id
     id = subst (IsIdOf old.toast (id_at copy.ids (column - 1))) (sym (ap (λ (q : Pointer). q.value_id) is ∙ same_id)) (subst (λ (n : ℕ). IsIdOf old.toast (id_at copy.ids (n - 1)) job.value_id) column_is laying.id)
@@ -261,6 +293,7 @@ hold_version xacts snaps old r copy columns at rows stage over put holds = recor
   ];
   relation = holds.relation;
   shared = subst (AreShared old.toast r.toast) (ap busy_at stage) holds.shared;
+  chunks = chunks_made old.toast holds.copies r (record r { rows = rows; place = next_place r.place; stage = Visiting }) made refl refl refl (ap busy_at stage) (ap put_at stage) refl (sym (ap cells_at stage)) holds.chunks;
   stage = stands.1;
 }
   where

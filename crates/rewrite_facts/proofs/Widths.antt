@@ -1,12 +1,11 @@
 -- The widths of a row whose columns go out one by one.
-use Rattle.std.proofs.Common.{◌≡◌, ℕ, zero, suc, ◌+◌, ◌<◌, ◌≤◌, Bool, true, false, cond, ◌==◌, ◌||◌, List, [], ◌∷◌, length, refl, sym, ap, ◌∙◌, subst, arith, add-zero}
+use Rattle.std.proofs.Common.{◌≡◌, ℕ, zero, suc, ◌+◌, ◌<◌, Bool, true, false, cond, ◌==◌, ◌||◌, List, [], ◌∷◌, length, refl, sym, ap, ◌∙◌, arith}
 use Rattle.std.specs.Prelude.{slice_set}
 use Rattle.std.specs.List.{list_any}
 use Rattle.std.proofs.lemmas.Bool.Decides.{nat_tests}
 use Rattle.external_pointer.specs.declared.external.Pointer.{Pointer}
-use Rattle.tuple_layout.specs.Sizes.{Width, Outside, header_size, is_missing, data_end_from}
-use Rattle.tuple_layout.specs.Tuples.{cell_width, cell_widths, row_size}
-use Rattle.tuple_layout.specs.declared.Storage.{Storage}
+use Rattle.tuple_layout.specs.Sizes.{Width, Outside}
+use Rattle.tuple_layout.specs.Tuples.{cell_width, cell_widths}
 use Rattle.tuple_layout.specs.declared.cell.Cell.{Cell}
 use Rattle.tuple_layout.specs.declared.cell.Cell.TheVariants.{Out}
 use Rattle.tuple_toaster.specs.Pushed.{is_among, moved_from, width_besides}
@@ -15,14 +14,6 @@ use Rattle.tuple_toaster.specs.Pushed.{is_among, moved_from, width_besides}
 pub moved-none : (n : ℕ) (ws : List Width) → moved_from n [] ws ≡ ws
 moved-none n [] = refl
 moved-none n (w ∷ ws) = ap (λ (rest : List Width). w ∷ rest) (moved-none (n + 1) ws)
-
--- what a column has makes no difference that is out besides
-pub moved-in : (n : ℕ) (out : List ℕ) (cells : List Cell) (k : ℕ) (cell : Cell) → is_among out (n + k) ≡ true → moved_from n out (cell_widths (slice_set cells k cell)) ≡ moved_from n out (cell_widths cells)
-moved-in n out [] k cell among = refl
-moved-in n out (c ∷ cells) zero cell among =
-    let here : is_among out n ≡ true = subst (λ m. is_among out m ≡ true) (add-zero n) among in
-    ap (λ (b : Bool). cond b Outside (cell_width cell) ∷ moved_from (n + 1) out (cell_widths cells)) here ∙ sym (ap (λ (b : Bool). cond b Outside (cell_width c) ∷ moved_from (n + 1) out (cell_widths cells)) here)
-moved-in n out (c ∷ cells) (suc k) cell among = ap (λ (rest : List Width). width_besides out n (cell_width c) ∷ rest) (moved-in (n + 1) out cells k cell (subst (λ m. is_among out m ≡ true) (omega arith) among))
 
 -- a column that is out besides is as one that has a pointer
 past : (n : ℕ) (out : List ℕ) (column : ℕ) (ws : List Width) → column < n → moved_from n (column ∷ out) ws ≡ moved_from n out ws
@@ -49,11 +40,3 @@ moved-out n out (c ∷ cells) (suc k) p there =
     ap (λ (b : Bool). cond (b || list_any (λ c. c == n) out) Outside (cell_width c) ∷ moved_from (n + 1) ((n + suc k) ∷ out) (cell_widths cells)) differ
     ∙ ap (λ m. width_besides out n (cell_width c) ∷ moved_from (n + 1) (m ∷ out) (cell_widths cells)) place
     ∙ ap (λ (rest : List Width). width_besides out n (cell_width c) ∷ rest) (moved-out (n + 1) out cells k p (omega (arith, there)))
-
--- a tuple has at least 24 bytes
-pub least_tuple : (schema : List Storage) (cells : List Cell) → 24 ≤ row_size schema cells
-least_tuple schema cells = by_null (list_any is_missing (cell_widths cells))
-  where
-    by_null : (b : Bool) → 24 ≤ header_size (length schema + 1) b + data_end_from 8 schema (cell_widths cells)
-    by_null true = omega arith
-    by_null false = omega arith

@@ -25,6 +25,7 @@ use Rattle.toast_store.specs.Fetches.{Fetching, outcome}
 use Rattle.table_state.specs.declared.table.Table.{Table}
 use Rattle.table_state.specs.Rows.{cell_value}
 use Rattle.rewrite_facts.specs.Copies.{AreInOrder, AreRowCells, AreVisited, AreWhole, Copied, IsCopy, IsIdOf, IsNewRow, IsOldVersion, chosen_widths, id_at, ids_of, laid, row_in_old, with_cells}
+use Rattle.rewrite_facts.specs.Chunks.{AreChunks}
 use Rattle.rewrite_facts.specs.Rewrites.{Rewriting, busy_at, restored}
 use Rattle.rewrite_facts.specs.declared.stage.RowCopy.{RowCopy}
 use Rattle.rewrite_facts.specs.declared.stage.RewriteStage.{RewriteStage}
@@ -128,5 +129,6 @@ pub record RewriteHolds (xacts : Xacts) (snaps : Snaps) (old : Table) (r : Rewri
   -- the new values beside the old ones
   pub relation : r.toast.rel.rel_id ≡ old.toast.rel.rel_id
   pub shared : AreShared old.toast r.toast (busy_at r.stage)
+  pub chunks : AreChunks old.toast copies r
   -- the version that is being copied
   pub stage : StandsAt old r r.stage

@@ -1,5 +1,5 @@
 -- What each step of a rewrite keeps of all that holds of it. A premise on a stage says what stands there (`StandsAt`).
-use Rattle.std.specs.Prelude.{ℕ, ◌≡◌, ◌+◌, ◌-◌, ◌≤◌, true, false, Some, None, List, length, slice_get}
+use Rattle.std.specs.Prelude.{ℕ, ◌≡◌, ◌+◌, ◌-◌, ◌≤◌, true, false, Some, None, List, [], length, slice_get}
 use Rattle.slot_page.specs.declared.line.Tid.{Tid}
 use Rattle.slot_page.specs.Pages.{item_in}
 use Rattle.slot_page.specs.NextItems.{is_before}
@@ -22,6 +22,7 @@ use Rattle.toast_store.specs.Fetches.{FetchSteps, Fetching}
 use Rattle.toast_store.specs.declared.fetch.FetchStep.TheVariants.{More, Done}
 use Rattle.table_state.specs.declared.table.Table.{Table}
 use Rattle.rewrite_facts.specs.Copies.{IsCopyable, chosen_widths, id_at, inline_widths, is_chosen, next_place, row_in_old, with_cells}
+use Rattle.rewrite_facts.specs.Chunks.{cells_at}
 use Rattle.rewrite_facts.specs.Holds.{HoldsNoPin, IsFilling, IsPlacing, RewriteHolds, StandsAt}
 use Rattle.rewrite_facts.specs.Rewrites.{Rewriting, at_stage, busy_at, is_used_in, new_rewrite, restored, with_cell, with_value}
 use Rattle.rewrite_facts.specs.declared.stage.RowCopy.{RowCopy}
@@ -32,7 +33,7 @@ pub record StepsKeep : Type 0 where
   -- before the first step nothing is copied
   pub begun : (xacts : Xacts) (snaps : Snaps) (table session xid : ℕ) (old : Table) → HoldsNoPin old.toast session → RewriteHolds xacts snaps old (new_rewrite table session xid old)
   -- a visit passes over versions that are not chosen, to one that is, or to the end
-  pub visited : (xacts : Xacts) (snaps : Snaps) (old : Table) (r : Rewriting) (to : Tid) (stage : RewriteStage) → busy_at r.stage ≡ None → busy_at stage ≡ None → is_before to r.place ≡ false
+  pub visited : (xacts : Xacts) (snaps : Snaps) (old : Table) (r : Rewriting) (to : Tid) (stage : RewriteStage) → busy_at r.stage ≡ None → busy_at stage ≡ None → cells_at r.stage ≡ [] → cells_at stage ≡ [] → is_before to r.place ≡ false
       → ((t : Tid) (version : Version) → item_in old.rows.pages t ≡ Some version → is_before t r.place ≡ false → is_before t to ≡ true → is_chosen xacts snaps version ≡ false)
       → StandsAt old (record r { place = to; stage = stage }) stage → RewriteHolds xacts snaps old r → RewriteHolds xacts snaps old (record r { place = to; stage = stage })
   -- a read goes on, or is over with the value of its column; the old store has other pins then

@@ -1,5 +1,5 @@
 -- What the event of a stage keeps, and that it is one event.
-use Rattle.std.proofs.Common.{◌≡◌, ℕ, ℤ, ◌-◌, ◌<◌, ◌≤◌, inl, inr, Some, None, List, length, slice_get, slice_set, refl, sym, ap, ◌∙◌, subst, arith}
+use Rattle.std.proofs.Common.{◌≡◌, ℕ, ℤ, ◌-◌, ◌<◌, ◌≤◌, inl, inr, Option, Some, None, List, length, slice_get, slice_set, refl, sym, ap, ◌∙◌, subst, arith}
 use Rattle.std.specs.Prelude.{Result, Ok, Err, IfOk}
 use Rattle.std.proofs.lemmas.List.{length-set}
 use Rattle.std.proofs.lemmas.Option.{get_or_from_slice_get, none-some, slice_get_cases, slice_get_within}
@@ -19,37 +19,27 @@ use Rattle.toast_store.specs.Stores.{Store, IsStore}
 use Rattle.toast_store.specs.Fetches.{FetchSteps, Fetching}
 use Rattle.toast_store.specs.PieceJobs.{Piecing, pointer_to}
 use Rattle.toast_store.specs.declared.fetch.FetchStep.{FetchStep}
-use Rattle.toast_store.specs.declared.fetch.FetchStep.TheVariants as told
 use Rattle.table_state.specs.declared.table.Table.{Table}
 use Rattle.rewrite_facts.specs.Copies.{id_at, next_place, with_cells}
 use Rattle.rewrite_facts.specs.Holds.{IsPlacing, RewriteHolds, StandsAt}
 use Rattle.rewrite_facts.specs.Rewrites.{Rewriting, at_stage, column_at, with_cell}
 use Rattle.rewrite_facts.specs.declared.stage.RowCopy.{RowCopy}
 use Rattle.rewrite_facts.specs.declared.stage.RewriteStage.{RewriteStage}
-use Rattle.rewrite_facts.specs.declared.stage.RewriteStage.TheVariants.{Visiting, Reading, Placing, Laying}
+use Rattle.rewrite_facts.specs.declared.stage.RewriteStage.TheVariants.{Visiting, Placing, Laying}
 use Rattle.rewrite_facts.proofs.Columns.{all_out}
-use Rattle.rewrite_facts.proofs.Reading.{hold_read, hold_reading, with_values}
 use Rattle.rewrite_facts.proofs.Sizes.{chosen_fits}
 use Rattle.rewrite_facts.proofs.Steps.{changed, hold_laid, same_rel}
 use Rattle.rewrite_facts.proofs.Values.{hold_drawn, hold_over, hold_version}
-use Rattle.rewrite_full.specs.Stages.{DrawsOn, LaidOn, LaysOn, Goes, Ends, ReadsOn, read_on}
+use Rattle.rewrite_full.specs.Stages.{DrawsOn, LaidOn, LaysOn, Goes, Ends, told_by}
 use Rattle.rewrite_full.specs.Steps.{IsEvent, ReadsOne, DrawsOne, LaysOne, PutsOne, EndsAll}
 use Rattle.rewrite_full.proofs.Settles.{taken_restored}
 
 -- ---- what holds after each event
 
-pub act_read : (xacts : Xacts) (snaps : Snaps) (old : Table) (r : Rewriting) (copy : RowCopy) (at : ℕ) (fetch : Fetching) (later : Store) (next : RewriteStage) → r.stage ≡ Reading copy at fetch → IsStore old.toast → ReadsOn old.toast copy at fetch later next
-    → RewriteHolds xacts snaps old r → RewriteHolds xacts snaps (with_values old later) (at_stage r next)
-act_read xacts snaps old r copy at fetch later next stage sound reads holds = subst (λ (s : RewriteStage). RewriteHolds xacts snaps (with_values old later) (at_stage r s)) (sym reads.stage_is) (by_told reads.told reads.steps)
-  where
-    by_told : (t : FetchStep) → FetchSteps old.toast fetch later reads.after t → RewriteHolds xacts snaps (with_values old later) (at_stage r (read_on copy at reads.after t))
-    by_told told.More steps = hold_reading xacts snaps old r copy at fetch reads.after later stage steps holds
-    by_told (told.Done value) steps = hold_read xacts snaps old r copy at fetch reads.after later value stage sound steps holds
-
 pub act_draw : (xacts : Xacts) (snaps : Snaps) (old : Table) (r : Rewriting) (ids ids_after : Pool) (copy : RowCopy) (columns : List ℕ) (at column : ℕ) (next : RewriteStage) → r.stage ≡ Placing copy columns at → slice_get columns at ≡ Some column → id_at copy.ids (column - 1) ≡ None
     → DrawsOn old.toast ids r copy columns at column ids_after next → RewriteHolds xacts snaps old r → RewriteHolds xacts snaps old (at_stage r next)
-act_draw xacts snaps old r ids ids_after copy columns at column next stage here had draws holds = subst (λ (s : RewriteStage). RewriteHolds xacts snaps old (at_stage r s)) (sym draws.stage_is)
-    (hold_drawn xacts snaps old r copy (with_cell copy column Null) columns at column draws.id draws.value ids stage (taken_restored copy (with_cell copy column Null) columns at column draws.value here draws.inline refl) here draws.inline had draws.free holds)
+act_draw xacts snaps old r ids ids_after copy columns at column next stage here had draws holds = subst (λ (s : RewriteStage). RewriteHolds xacts snaps old (at_stage r s)) (sym draws.begun.stage_is)
+    (hold_drawn xacts snaps old r copy (with_cell copy column Null) columns at column draws.id draws.begun.value ids stage (taken_restored copy (with_cell copy column Null) columns at column draws.begun.value here draws.begun.inline refl) here draws.begun.inline had draws.free holds)
 
 pub act_lay : (xacts : Xacts) (snaps : Snaps) (old : Table) (r : Rewriting) (copy : RowCopy) (columns : List ℕ) (at : ℕ) (job : Piecing) (later : Store) (next : RewriteStage) → r.stage ≡ Laying copy columns at job → slice_get columns at ≡ Some (column_at columns at) → IsStore r.toast
     → LaysOn r.toast copy columns at job r.toast.rel.rel_id later next → RewriteHolds xacts snaps old r → RewriteHolds xacts snaps old (changed r later next)
@@ -110,18 +100,22 @@ pub both_ok : {X E : Type 0} (r : Result X E) (P Q T : X → Type 0) → ((x : X
 both_ok (Ok x) P Q T f p q = f x p q
 both_ok (Err e) P Q T f p q = tt
 
+-- a step of a read told what it is found to have told
+pub steps_told : (old later : Store) (fetch after : Fetching) (had is : Option (List ℕ)) → had ≡ is → FetchSteps old fetch later after (told_by had) → FetchSteps old fetch later after (told_by is)
+steps_told old later fetch after had is same steps = subst (λ (o : Option (List ℕ)). FetchSteps old fetch later after (told_by o)) same steps
+
 -- what stands at the stage that is found
 pub stands_at : (old : Table) (r : Rewriting) (stage at : RewriteStage) → stage ≡ at → StandsAt old (at_stage r stage) stage → StandsAt old (at_stage r at) at
 stands_at old r stage at is stands = subst (λ (s : RewriteStage). StandsAt old (at_stage r s) s) is stands
 
 -- a draw is one for the rewrite at whichever stage
 pub draws_at : (old : Store) (ids : Pool) (r : Rewriting) (stage : RewriteStage) (copy : RowCopy) (columns : List ℕ) (at column : ℕ) (ids_after : Pool) (next : RewriteStage) → DrawsOn old ids r copy columns at column ids_after next → DrawsOn old ids (at_stage r stage) copy columns at column ids_after next
-draws_at old ids r stage copy columns at column ids_after next d = record { id = d.id; value = d.value; free = d.free; drawn = d.drawn; inline = d.inline; stage_is = d.stage_is }
+draws_at old ids r stage copy columns at column ids_after next d = record { id = d.id; free = d.free; drawn = d.drawn; begun = d.begun }
 
 -- ---- one event
 
-pub event_read : (old : Table) (ids : Pool) (r : Rewriting) (copy : RowCopy) (at : ℕ) (fetch : Fetching) (stage next : RewriteStage) (later : Store) → fetch.walk.session ≡ r.session → ReadsOn old.toast copy at fetch later next → IsEvent old.toast ids (at_stage r stage) later ids (at_stage r next)
-event_read old ids r copy at fetch stage next later session reads = ReadsOne (record { walk = fetch.walk; session = session; store = reads.steps.store; rows = refl; toast = refl }) refl
+pub event_read : (old : Store) (ids : Pool) (r : Rewriting) (fetch after : Fetching) (told : FetchStep) (stage next : RewriteStage) (later : Store) → fetch.walk.session ≡ r.session → FetchSteps old fetch later after told → IsEvent old ids (at_stage r stage) later ids (at_stage r next)
+event_read old ids r fetch after told stage next later session steps = ReadsOne (record { walk = fetch.walk; session = session; store = steps.store; rows = refl; toast = refl }) refl
 
 pub event_draw : (old : Store) (ids ids_after : Pool) (r : Rewriting) (copy : RowCopy) (columns : List ℕ) (at column : ℕ) (stage next : RewriteStage) → DrawsOn old ids r copy columns at column ids_after next → IsEvent old ids (at_stage r stage) old ids_after (at_stage r next)
 event_draw old ids ids_after r copy columns at column stage next d = DrawsOne (record { id = d.id; free = d.free; drawn = d.drawn; rows = refl; toast = refl }) refl

@@ -1,3 +1,4 @@
 pub mod Places
 pub mod Settles
 pub mod Acts
+pub mod Lefts

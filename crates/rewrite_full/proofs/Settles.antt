@@ -31,6 +31,7 @@ use Rattle.toast_store.specs.Fetches.{Fetching, end_of, first_of, new_fetch}
 use Rattle.toast_store.proofs.Walked.{begun}
 use Rattle.toast_store.proofs.Wholes.{outcome_whole}
 use Rattle.table_state.specs.declared.table.Table.{Table}
+use Rattle.rewrite_facts.specs.Chunks.{cells_at, put_at}
 use Rattle.rewrite_facts.specs.Copies.{IsCopyable, id_at, inline_widths, row_in_old}
 use Rattle.rewrite_facts.specs.Holds.{IsFilling, IsPlacing, IsReading, RewriteHolds, StandsAt}
 use Rattle.rewrite_facts.specs.Rewrites.{Rewriting, at_stage, busy_at, restored, with_cell}
@@ -38,6 +39,7 @@ use Rattle.rewrite_facts.specs.declared.stage.RowCopy.{RowCopy}
 use Rattle.rewrite_facts.specs.declared.stage.RewriteStage.{RewriteStage}
 use Rattle.rewrite_facts.specs.declared.stage.RewriteStage.TheVariants.{Visiting, Filling, Reading, Placing, Laying, Ready}
 use Rattle.rewrite_facts.proofs.Cells.{pointer_sizes}
+use Rattle.rewrite_facts.proofs.Chunks.{chunks_planned, chunks_restaged}
 use Rattle.rewrite_facts.proofs.Columns.{planned}
 use Rattle.rewrite_facts.proofs.Sizes.{inline_is, row_fits}
 use Rattle.rewrite_facts.proofs.Steps.{hold_restaged, hold_visited}
@@ -53,7 +55,7 @@ stop_copyable xacts snaps old place version can stop there = can.each place vers
 pub visited_version : (xacts : Xacts) (snaps : Snaps) (old : Table) (r : Rewriting) (to : Tid) (version : Version) (copy : RowCopy) → r.stage ≡ Visiting → ArePassed xacts snaps old.rows.pages r.place to → item_in old.rows.pages to ≡ Some version → IsCopyable old version
     → copy ≡ copy_of old.rows.schema.storages version → RewriteHolds xacts snaps old r → RewriteHolds xacts snaps old (record r { place = to; stage = Filling copy })
 visited_version xacts snaps old r to version copy stage passed there can is holds = subst (λ (c : RowCopy). RewriteHolds xacts snaps old (record r { place = to; stage = Filling c })) (sym is)
-    (hold_visited xacts snaps old r to (Filling (copy_of old.rows.schema.storages version)) (ap busy_at stage) refl passed.not_before passed.none (filling, subst (StandsAt old r) stage holds.stage) holds)
+    (hold_visited xacts snaps old r to (Filling (copy_of old.rows.schema.storages version)) (ap busy_at stage) refl (ap cells_at stage) refl passed.not_before passed.none (filling, subst (StandsAt old r) stage holds.stage) holds)
   where
     filling : IsFilling old to (copy_of old.rows.schema.storages version)
     filling = record {
@@ -68,7 +70,7 @@ visited_version xacts snaps old r to version copy stage passed there can is hold
 -- or the end
 pub visited_end : (xacts : Xacts) (snaps : Snaps) (old : Table) (r : Rewriting) (to : Tid) → r.stage ≡ Visiting → ArePassed xacts snaps old.rows.pages r.place to → IsStop xacts snaps old.rows.pages to → item_in old.rows.pages to ≡ None
     → RewriteHolds xacts snaps old r → RewriteHolds xacts snaps old (record r { place = to; stage = Ready })
-visited_end xacts snaps old r to stage passed stop none holds = hold_visited xacts snaps old r to Ready (ap busy_at stage) refl passed.not_before passed.none (stop.end none) holds
+visited_end xacts snaps old r to stage passed stop none holds = hold_visited xacts snaps old r to Ready (ap busy_at stage) refl (ap cells_at stage) refl passed.not_before passed.none (stop.end none) holds
 
 -- ---- reads
 
@@ -109,6 +111,7 @@ filled_on xacts snaps old r copy (Placing same columns at) stage sound is holds 
     let stands = stands_here xacts snaps old r (Filling copy) stage holds in
     hold_restaged xacts snaps old r (Placing same columns at) (ap busy_at stage) refl
     (subst (λ (n : ℕ). IsPlacing old r.toast None r.place same columns n) (sym is.1.1.1) (subst (λ (c : RowCopy). IsPlacing old r.toast None r.place c columns 0) (sym is.0) (planned old r.toast r.place copy columns is.1.0 is.1.1.0 stands.0)), stands.1) holds
+    (chunks_planned old.toast holds.copies r (Placing same columns at) (sym (ap busy_at stage)) (sym (ap put_at stage)) (ap cells_at stage) (subst HaveNoPointer (ap RowCopy.cells (sym is.0)) is.1.0) holds.chunks)
 filled_on xacts snaps old r copy (Reading same at fetch) stage sound is holds =
     let stands = stands_here xacts snaps old r (Filling copy) stage holds in
     let p : Pointer = is.1.0 in
@@ -125,6 +128,7 @@ filled_on xacts snaps old r copy (Reading same at fetch) stage sound is holds =
     } in
     hold_restaged xacts snaps old r (Reading same at fetch) (ap busy_at stage) refl
     (subst (IsFilling old r.place) (sym is.0) stands.0, subst (λ (c : RowCopy). IsReading old r.session c at fetch) (sym is.0) (subst (IsReading old r.session copy at) (sym is.1.2) reading)) holds
+    (chunks_restaged old.toast holds.copies r (Reading same at fetch) (sym (ap busy_at stage)) (sym (ap put_at stage)) (sym (ap cells_at stage)) holds.chunks)
   where
     all_bytes : (p : Pointer) (value : List ℕ) → p.size ≡ length value → bytes_in (whole_span p) value ≡ value
     all_bytes p value size = let whole : p.size - 0 ≡ p.size = omega arith in ap (λ (n : ℕ). take n value) whole ∙ take_all p.size value (omega (arith, size))

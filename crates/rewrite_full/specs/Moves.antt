@@ -22,6 +22,8 @@ use Rattle.toast_store.specs.Fetches.{new_fetch}
 use Rattle.table_state.specs.declared.table.Table.{Table}
 use Rattle.table_state.specs.Cells.{cells_in}
 use Rattle.rewrite_facts.specs.Copies.{IsCopyable, id_at, id_of, is_chosen}
+use Rattle.rewrite_facts.specs.Left.{IsProgress, left_at}
+use Rattle.rewrite_facts.specs.Rewrites.{Rewriting, answer_at}
 use Rattle.rewrite_facts.specs.declared.stage.RowCopy.{RowCopy}
 use Rattle.rewrite_facts.specs.declared.stage.RewriteStage.{RewriteStage}
 use Rattle.rewrite_facts.specs.declared.stage.RewriteStage.TheVariants.{Visiting, Filling, Reading, Placing, Laying, Ready}
@@ -113,3 +115,13 @@ pub record IsSharedAt (new : Store) (copy : RowCopy) (columns : List ℕ) (at : 
 -- it was not
 abbrev pub IsUnshared : Store → RowCopy → List ℕ → ℕ → Type 0
 IsUnshared new copy columns at = (column id : ℕ) → slice_get columns at ≡ Some column → id_at copy.ids (column - 1) ≡ Some id → is_used new id ≡ false
+
+-- ---- steps left
+
+-- a rewrite at a stage has no more steps left than one had
+abbrev pub HasNoMore : Table → Rewriting → RewriteStage → Rewriting → RewriteStage → Type 0
+HasNoMore old before stage after next = left_at old after.place next ≤ left_at old before.place stage
+
+-- after an event it has fewer than before it, or is ready and has none
+abbrev pub HasFewer : Table → Rewriting → RewriteStage → Table → Rewriting → RewriteStage → Type 0
+HasFewer old before stage later after next = IsProgress (left_at old before.place stage) (left_at later after.place next) (answer_at next)

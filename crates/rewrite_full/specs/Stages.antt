@@ -1,12 +1,10 @@
 -- What holds of a rewrite at a stage, and what its step goes on from.
-use Rattle.std.specs.Prelude.{ℕ, ◌≡◌, ◌+◌, ◌-◌, Some, None, List, slice_get, ⊤}
+use Rattle.std.specs.Prelude.{ℕ, ◌≡◌, ◌+◌, ◌-◌, Option, Some, None, List, slice_get, ⊤}
 use Rattle.toast_store.specs.Stores.{Store}
-use Rattle.toast_store.specs.Fetches.{Fetching}
 use Rattle.toast_store.specs.declared.fetch.FetchStep.{FetchStep}
 use Rattle.toast_store.specs.declared.fetch.FetchStep.TheVariants as told
-use Rattle.toast_store.specs.Fetches.{FetchSteps}
 use Rattle.rewrite_facts.specs.Copies.{id_at}
-use Rattle.rewrite_facts.specs.Rewrites.{Rewriting, column_at, is_used_in, with_cell, with_value}
+use Rattle.rewrite_facts.specs.Rewrites.{Rewriting, column_at, is_used_in, with_cell}
 use Rattle.external_pointer.specs.declared.external.Pointer.{Pointer}
 use Rattle.external_pointer.specs.Spelling.{IsInRange}
 use Rattle.tuple_layout.specs.declared.cell.Cell.TheVariants.{Inline, Null, Out}
@@ -18,17 +16,10 @@ use Rattle.rewrite_facts.specs.declared.stage.RowCopy.{RowCopy}
 use Rattle.rewrite_facts.specs.declared.stage.RewriteStage.{RewriteStage}
 use Rattle.rewrite_facts.specs.declared.stage.RewriteStage.TheVariants.{Visiting, Filling, Reading, Placing, Laying, Ready}
 
--- where a read goes on after a step: at the same column, or with its value
-abbrev pub read_on : RowCopy → ℕ → Fetching → FetchStep → RewriteStage
-read_on copy at fetch told.More = Reading copy at fetch
-read_on copy at fetch (told.Done value) = Filling (with_value copy at value)
-
--- what a step of a read does
-pub record ReadsOn (old : Store) (copy : RowCopy) (at : ℕ) (fetch : Fetching) (later : Store) (stage : RewriteStage) : Type 0 where
-  pub after : Fetching
-  pub told : FetchStep
-  pub steps : FetchSteps old fetch later after told
-  pub stage_is : stage ≡ read_on copy at after told
+-- what a step of a read has told that has its value, or none yet
+abbrev pub told_by : Option (List ℕ) → FetchStep
+told_by None = told.More
+told_by (Some value) = told.Done value
 
 -- the old value of the next column, if there is one, was not out of line
 abbrev pub IsDrawing : RewriteStage → Type 0
@@ -39,14 +30,18 @@ IsDrawing (Placing copy columns at) = (column : ℕ) → slice_get columns at �
 IsDrawing (Laying copy columns at pieces) = ⊤
 IsDrawing Ready = ⊤
 
+-- the value of a column is taken out of the copy and comes on its way under an id
+pub record IsBegun (xid : ℕ) (copy : RowCopy) (columns : List ℕ) (at column id : ℕ) (stage : RewriteStage) : Type 0 where
+  pub value : List ℕ
+  pub inline : slice_get copy.cells (column - 1) ≡ Some (Inline value)
+  pub stage_is : stage ≡ Laying (with_cell copy column Null) columns at (new_pieces xid id value)
+
 -- what a draw does for the value of a column
 pub record DrawsOn (old : Store) (ids : Pool) (r : Rewriting) (copy : RowCopy) (columns : List ℕ) (at column : ℕ) (ids_after : Pool) (stage : RewriteStage) : Type 0 where
   pub id : ℕ
-  pub value : List ℕ
   pub free : first_free_id (is_used_in old r.toast) ids r.table ≡ Some id
   pub drawn : ids_after ≡ drawn_from ids r.table r.session id
-  pub inline : slice_get copy.cells (column - 1) ≡ Some (Inline value)
-  pub stage_is : stage ≡ Laying (with_cell copy column Null) columns at (new_pieces r.xid id value)
+  pub begun : IsBegun r.xid copy columns at column id stage
 
 -- the pieces go on, or were the last
 pub data LaidOn (copy : RowCopy) (columns : List ℕ) (at : ℕ) (left : Piecing) (toast_rel : ℕ) (stage : RewriteStage) : Type 0 where

@@ -17,15 +17,16 @@ ghost use Rattle.row_versions.specs.Relations.{AreAssigned, IsRelation, with_ver
 ghost use Rattle.toast_store.specs.Stores.{IsStore, Store};
 ghost use Rattle.rewrite_facts.specs.Copies.{next_place, with_cells};
 ghost use Rattle.rewrite_facts.specs.Holds.{RewriteHolds, StandsAt};
+ghost use Rattle.rewrite_facts.specs.Left.{IsProgress, left};
 ghost use Rattle.rewrite_facts.specs.Rewrites.{answer_at, at_stage, column_at, new_rewrite, table_of};
 ghost use Rattle.rewrite_facts.specs.declared.stage.RewriteStage.TheVariants.{Placing, Ready, Visiting};
-ghost use Rattle.rewrite_full.specs.Moves.{CanCopy, HasInline, IsFilled, IsUnshared, IsVisited};
-ghost use Rattle.rewrite_full.specs.Stages.{DrawsOn, IsDrawing, LaysOn};
+ghost use Rattle.rewrite_full.specs.Moves.{CanCopy, HasFewer, HasInline, HasNoMore, IsFilled, IsUnshared, IsVisited};
+ghost use Rattle.rewrite_full.specs.Stages.{DrawsOn, IsBegun, IsDrawing, LaysOn};
 ghost use Rattle.rewrite_full.specs.Steps.{IsDrawCause, IsEvent};
 
 use crate::columns::{Both, column_at, id_at, next_shared, pointer_of, taken, with_pointer};
 use crate::copies::{copy_of, next_of};
-use crate::reads::read;
+use crate::reads::{read, with_value};
 use crate::visits::{next_chosen, next_place};
 use rewrite_facts::{RewriteStage, RewriteStep, RowCopy};
 use row_versions::RowVersions;
@@ -107,6 +108,7 @@ impl Rewrite {
         requires holds { RewriteHolds old.now.xacts.now old.now.snaps.now (table_of old.now.rows.now old.now.toast.now) (at_stage self.old stage) }
         ensures holds { IfOk result (λ next. RewriteHolds old.now.xacts.now old.now.snaps.now (table_of old.now.rows.now old.now.toast.now) (at_stage self.new next)) }
         ensures visited { IfOk result IsVisited }
+        ensures left { IfOk result (HasNoMore (table_of old.now.rows.now old.now.toast.now) self.old stage self.new) }
         ensures rest { self.new ≡ record self.old { place = self.new.place } }
     {
         match stage {
@@ -130,6 +132,7 @@ impl Rewrite {
         requires holds { RewriteHolds old.now.xacts.now old.now.snaps.now (table_of old.now.rows.now old.now.toast.now) (at_stage self.now stage) }
         ensures holds { IfOk result (λ next. RewriteHolds old.now.xacts.now old.now.snaps.now (table_of old.now.rows.now old.now.toast.now) (at_stage self.now next)) }
         ensures filled { IfOk result IsFilled }
+        ensures left { IfOk result (HasNoMore (table_of old.now.rows.now old.now.toast.now) self.now stage self.now) }
     {
         match stage {
             RewriteStage::Filling { copy } => {
@@ -152,6 +155,7 @@ impl Rewrite {
         requires holds { RewriteHolds old.now.xacts.now old.now.snaps.now (table_of old.now.rows.now old.now.toast.now) (at_stage self.now (Placing copy columns.now at)) }
         ensures holds { RewriteHolds old.now.xacts.now old.now.snaps.now (table_of old.now.rows.now old.now.toast.now) (at_stage self.now (Placing result.0 columns.now result.1)) }
         ensures unshared { IsUnshared self.now.toast result.0 columns.now result.1 }
+        ensures left { HasNoMore (table_of old.now.rows.now old.now.toast.now) self.now (Placing copy columns.now at) self.now (Placing result.0 columns.now result.1) }
     {
         let count = columns.as_slice().len();
         let mut copy = copy;
@@ -167,6 +171,28 @@ impl Rewrite {
         (copy, at)
     }
 
+    /// The stage at which the value of a column, taken out of the copy, comes on its way under an id.
+    fn begun(
+        &self,
+        copy: RowCopy,
+        columns: OutColumns,
+        at: usize,
+        column: u16,
+        id: u32,
+    ) -> RewriteStage
+        requires { HasInline copy column }
+        ensures { IsBegun self.now.xid copy columns at column id result }
+    {
+        let (copy, value) = taken(copy, column);
+        let pieces = PieceJob::new(self.xid, id, value);
+        RewriteStage::Laying {
+            copy,
+            columns,
+            at,
+            pieces,
+        }
+    }
+
     /// The stage that follows where columns go out: past those whose values the new relation has; a value that was
     /// out of line comes on its way under its id.
     fn passed(&self, old: &Olds<'_>, toast_rel: u32, stage: RewriteStage) -> RewriteStage
@@ -175,6 +201,7 @@ impl Rewrite {
         requires holds { RewriteHolds old.now.xacts.now old.now.snaps.now (table_of old.now.rows.now old.now.toast.now) (at_stage self.now stage) }
         ensures holds { RewriteHolds old.now.xacts.now old.now.snaps.now (table_of old.now.rows.now old.now.toast.now) (at_stage self.now result) }
         ensures drawing { IsDrawing result }
+        ensures left { HasNoMore (table_of old.now.rows.now old.now.toast.now) self.now stage self.now result }
     {
         let RewriteStage::Placing { copy, columns, at } = stage else {
             return stage;
@@ -186,13 +213,7 @@ impl Rewrite {
         let Some(id) = id_at(&copy, column) else {
             return RewriteStage::Placing { copy, columns, at };
         };
-        let (copy, value) = taken(copy, column);
-        RewriteStage::Laying {
-            copy,
-            columns,
-            at,
-            pieces: PieceJob::new(self.xid, id, value),
-        }
+        self.begun(copy, columns, at, column, id)
     }
 
     /// The stage of a step's event: past what takes no step.
@@ -209,6 +230,7 @@ impl Rewrite {
         requires holds { RewriteHolds xacts.now snaps.now (table_of rows.now toast.now) (at_stage self.old stage) }
         ensures holds { IfOk result (λ next. RewriteHolds xacts.now snaps.now (table_of rows.now toast.now) (at_stage self.new next)) }
         ensures drawing { IfOk result IsDrawing }
+        ensures left { IfOk result (HasNoMore (table_of rows.now toast.now) self.old stage self.new) }
         ensures sound { IsStore toast.now }
         ensures rest { self.new ≡ record self.old { place = self.new.place } }
     {
@@ -244,13 +266,7 @@ impl Rewrite {
             new: &self.toast,
         };
         let id = ids.draw(self.table, self.session, &both)?;
-        let (copy, value) = taken(copy, column);
-        Ok(RewriteStage::Laying {
-            copy,
-            columns,
-            at,
-            pieces: PieceJob::new(self.xid, id, value),
-        })
+        Ok(self.begun(copy, columns, at, column, id))
     }
 
     /// Puts the new version of a copy all of whose columns are out that go out. After an error the new rows are as
@@ -329,12 +345,22 @@ impl Rewrite {
         requires stands { StandsAt (table_of rows.now toast.old) (at_stage self.old stage) stage }
         ensures holds { (xacts : Xacts) (snaps : Snaps) → RewriteHolds xacts snaps (table_of rows.now toast.old) (at_stage self.old stage) → IfOk result (λ next. RewriteHolds xacts snaps (table_of rows.now toast.new) (at_stage self.new next)) }
         ensures event { IfOk result (λ next. IsEvent toast.old ids.old (at_stage self.old stage) toast.new ids.new (at_stage self.new next)) }
+        ensures falls { IfOk result (HasFewer (table_of rows.now toast.old) self.old stage (table_of rows.now toast.new) self.new) }
         ensures cause { IfErr result (IsDrawCause toast.old ids.old self.old) }
         ensures toast_stays { OnErr result (toast.new ≡ toast.old) }
         ensures ids_stay { OnErr result (ids.new ≡ ids.old) }
     {
         match stage {
-            RewriteStage::Reading { copy, at, fetch } => read(toast, copy, at, fetch),
+            RewriteStage::Reading {
+                copy,
+                at,
+                mut fetch,
+            } => match read(toast, &mut fetch)? {
+                None => Ok(RewriteStage::Reading { copy, at, fetch }),
+                Some(value) => Ok(RewriteStage::Filling {
+                    copy: with_value(copy, at, value),
+                }),
+            },
             RewriteStage::Placing { copy, columns, at } => match column_at(&columns, at) {
                 Some(column) => self.draw(toast, ids, copy, columns, at, column),
                 None => self.put(rows, copy),
@@ -377,6 +403,7 @@ impl Rewrite {
         ensures answer { IfOk result (λ step. step ≡ answer_at self.new.stage) }
         ensures holds { OnOk result (RewriteHolds xacts.now snaps.now (table_of rows.now toast.new) self.new) }
         ensures event { OnOk result (IsEvent toast.old ids.old self.old toast.new ids.new self.new) }
+        ensures falls { IfOk result (IsProgress (left (table_of rows.now toast.old) self.old) (left (table_of rows.now toast.new) self.new)) }
 
         // Why it is refused, and what stays then.
         ensures cause { IfErr result (IsDrawCause toast.old ids.old self.old) }

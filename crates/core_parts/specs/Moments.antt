@@ -4,7 +4,7 @@ use Rattle.lock_table.specs.Locks.{after_end}
 use Rattle.command_set.specs.declared.Command.{Command}
 use Rattle.command_set.specs.declared.Reply.{Reply}
 use Rattle.core_state.specs.Events.{at_moment, line_due}
-use Rattle.core_state.specs.Lines.{after_failing, after_over}
+use Rattle.core_state.specs.Lines.{after_over}
 use Rattle.core_state.specs.State.{CoreState, is_past_moment, seat_of}
 use Rattle.core_state.specs.declared.advance.Advance.{Advance}
 use Rattle.core_looks.specs.Due.{reply_due}
@@ -33,7 +33,3 @@ idled c s = after_over c s (seat_of c s).state
 -- where a moment is refused, its session may have asked for locks, and its transaction may have taken its copy
 abbrev pub IsCutShort : CoreState → ℕ → CoreState → Type 0
 IsCutShort c s new = HasAsked c s new ⊎ HasAsked (with_copy c s) s new
-
--- the session's command is over and its transaction has failed, which may have taken its copy before
-abbrev pub HasFailed : CoreState → ℕ → CoreState → Type 0
-HasFailed c s new = (new ≡ after_failing c s) ⊎ (new ≡ after_failing (with_copy (idled c s) s) s)

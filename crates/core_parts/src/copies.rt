@@ -1,8 +1,8 @@
 //! Copies of commands and of values.
 
-ghost use Rattle.std.specs.Prelude.{◌≡◌, false, IfOk, OnErr, true};
+ghost use Rattle.std.specs.Prelude.{◌≡◌, false, IfOk, IfSome, None, OnErr, true};
 ghost use Rattle.command_set.specs.Journals.{takes_no_memory};
-ghost use Rattle.core_parts.specs.Copies.{has_values};
+ghost use Rattle.core_parts.specs.Copies.{has_values, is_read};
 
 use command_set::{Command, Row, Set, SetList};
 use std::alloc::{AllocError, Global};
@@ -54,33 +54,55 @@ fn copy_of_sets(alloc: Global, sets: &SetList) -> Result<SetList, AllocError>
     Ok(copy)
 }
 
-/// A copy of a command that holds no values.
+/// A copy of a command that reads a row or a value, if it is one.
 // Numbers go by reference into functions of their own, whose proofs then know their range.
-fn copy_of_plain(command: &Command) -> Command
-    requires { has_values command.now ≡ false }
-    ensures { result ≡ command.now }
+fn copy_of_read(command: &Command) -> Option<Command>
+    ensures copy { IfSome result (λ copy. copy ≡ command.now) }
+    ensures other { result ≡ None → is_read command.now ≡ false }
 {
     match command {
-        Command::Begin { level } => Command::Begin { level: *level },
-        Command::Commit => Command::Commit,
-        Command::Rollback => Command::Rollback,
-        Command::Get { table, key } => Command::Get {
+        Command::Get { table, key } => Some(Command::Get {
             table: *table,
             key: *key,
-        },
+        }),
         Command::Part {
             table,
             key,
             column,
             offset,
             length,
-        } => Command::Part {
+        } => Some(Command::Part {
             table: *table,
             key: *key,
             column: *column,
             offset: *offset,
             length: *length,
-        },
+        }),
+        Command::Fetch {
+            handle,
+            offset,
+            length,
+        } => Some(Command::Fetch {
+            handle: *handle,
+            offset: *offset,
+            length: *length,
+        }),
+        _ => None,
+    }
+}
+
+/// A copy of a command that holds no values.
+fn copy_of_plain(command: &Command) -> Command
+    requires { has_values command.now ≡ false }
+    ensures { result ≡ command.now }
+{
+    if let Some(copy) = copy_of_read(command) {
+        return copy;
+    }
+    match command {
+        Command::Begin { level } => Command::Begin { level: *level },
+        Command::Commit => Command::Commit,
+        Command::Rollback => Command::Rollback,
         Command::Open {
             handle,
             table,
@@ -92,15 +114,6 @@ fn copy_of_plain(command: &Command) -> Command
             key: *key,
             column: *column,
         },
-        Command::Fetch {
-            handle,
-            offset,
-            length,
-        } => Command::Fetch {
-            handle: *handle,
-            offset: *offset,
-            length: *length,
-        },
         Command::Close { handle } => Command::Close { handle: *handle },
         Command::Delete { table, key } => Command::Delete {
             table: *table,
@@ -109,7 +122,7 @@ fn copy_of_plain(command: &Command) -> Command
         Command::VacuumMain { table } => Command::VacuumMain { table: *table },
         Command::VacuumToast { table } => Command::VacuumToast { table: *table },
         Command::Rewrite { table } => Command::Rewrite { table: *table },
-        Command::Insert { .. } | Command::Update { .. } | Command::Rekey { .. } => unreachable!(),
+        _ => unreachable!(),
     }
 }
 

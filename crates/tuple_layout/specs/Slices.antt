@@ -1,4 +1,4 @@
--- A part of a value's bytes (PostgreSQL, "Binary String Functions": substr; "TOAST": sliced retrieval).
+-- A part of a value's bytes, cut to what the value has (PostgreSQL, detoast_attr_slice; "TOAST": sliced retrieval).
 use Rattle.std.specs.Prelude.{ℕ, ◌+◌, ℤ, pos, negsuc, List, [], take, drop, nat_le, if◌then◌else◌}
 
 -- the last place that an offset and a length may lead to

@@ -12,8 +12,6 @@ mod index;
 mod leaves;
 mod node;
 mod pins;
-#[cfg(test)]
-mod tests;
 mod wanted;
 
 pub use entry::{Batch, Entry, EntryList, LEAF_ENTRIES, LOWER_ENTRIES, Pin, Swept};

@@ -208,6 +208,3 @@ pub struct JournalEntry {
 
 /// A journal's entries, in order.
 pub type JournalList = ListOf<JournalEntry>;
-
-#[cfg(test)]
-mod tests;

@@ -25,6 +25,3 @@ pub use split::decode_all;
 pub use stream_wire::Message;
 pub use transaction::{MessageList, Transaction, TransactionList};
 pub use whole::decode_log;
-
-#[cfg(test)]
-mod tests;

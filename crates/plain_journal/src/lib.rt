@@ -8,6 +8,3 @@ pub mod runs;
 
 pub use legality::{is_complete, is_legal};
 pub use runs::{plain_lines, run_of};
-
-#[cfg(test)]
-mod tests;

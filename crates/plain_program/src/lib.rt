@@ -13,6 +13,3 @@ mod replies;
 pub use answers::plain_answer;
 pub use effects::fail;
 pub use fault::PlainFault;
-
-#[cfg(test)]
-mod tests;

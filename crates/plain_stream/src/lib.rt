@@ -12,6 +12,3 @@ mod writing;
 
 pub use messages::MessageList;
 pub use streams::{plain_messages, plain_rows};
-
-#[cfg(test)]
-mod tests;

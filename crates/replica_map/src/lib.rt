@@ -10,6 +10,3 @@ pub use fault::ApplyFault;
 pub use replica::Replica;
 pub use stream_wire::{Message, Sent, SentList};
 pub use tuple_layout::{Bytes, Row};
-
-#[cfg(test)]
-mod tests;

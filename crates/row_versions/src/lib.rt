@@ -11,8 +11,6 @@
 mod keys;
 mod reads;
 mod relation;
-#[cfg(test)]
-mod tests;
 mod version;
 
 pub use keys::KeyEntry;

@@ -9,8 +9,6 @@ mod fault;
 mod forms;
 pub mod laws;
 mod reader;
-#[cfg(test)]
-mod tests;
 
 pub use command_set::Script;
 pub use fault::ScriptFault;

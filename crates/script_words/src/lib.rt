@@ -8,7 +8,5 @@ pub mod lines;
 pub mod names;
 pub mod numbers;
 pub mod sets;
-#[cfg(test)]
-mod tests;
 pub mod values;
 pub mod words;

@@ -6,8 +6,6 @@ mod hub;
 mod print;
 mod replay;
 mod steps;
-#[cfg(test)]
-mod tests;
 
 pub use hub::{Hub, KeptLine, Progress, Turn};
 pub use replay::{print_hub, read_script, toast_replay};

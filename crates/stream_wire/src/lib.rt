@@ -14,6 +14,3 @@ pub use message::{Message, Sent, SentList};
 pub use read::read_message;
 pub use toast_io::Bytes;
 pub use write::write_message;
-
-#[cfg(test)]
-mod tests;

@@ -7,7 +7,5 @@
 
 pub mod laws;
 mod table;
-#[cfg(test)]
-mod tests;
 
 pub use table::{FoundRow, Table};

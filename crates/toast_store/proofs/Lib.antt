@@ -15,7 +15,6 @@ pub mod Ahead
 pub mod Each
 pub mod Marked
 pub mod Held
-pub mod Assigned
 pub mod ValueIn
 pub mod Others
 pub mod Fetched

@@ -6,16 +6,10 @@
 
 mod fault;
 mod fetch;
-#[cfg(test)]
-mod fetch_tests;
 mod mark;
 mod piece_job;
-#[cfg(test)]
-mod reuse_tests;
 mod save;
 mod store;
-#[cfg(test)]
-mod tests;
 mod walk;
 
 pub use fault::FetchFault;

@@ -9,4 +9,3 @@ pub mod Lefts
 pub mod Tells
 pub mod Rows
 pub mod Starts
-mod Readers

@@ -11,8 +11,6 @@ pub mod laws;
 mod stage;
 mod sweepable;
 mod targets;
-#[cfg(test)]
-mod tests;
 mod vacuum;
 
 pub use slot_page::TidList;

@@ -1,5 +1,0 @@
-use Rattle.chunk_index.proofs.PinFacts.{pin_dropped}
-use Rattle.chunk_index.proofs.tests.ask_on.Goals as goal
-
-pub batch-requires : goal.batch-requires
-batch-requires c = rw c.unpin.ensures.dropped (pin_dropped c.args.index.now.pins c.args.session)

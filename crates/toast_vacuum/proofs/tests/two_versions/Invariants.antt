@@ -1,5 +1,0 @@
-use Rattle.row_versions.specs.Relations.{AreAssigned}
-use Rattle.toast_vacuum.proofs.tests.two_versions.Given as goal
-
-abbrev pub invariant-loop-xid : goal.invariant-loop-xid
-invariant-loop-xid l = AreAssigned l.xacts l.rel.pages

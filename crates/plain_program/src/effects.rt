@@ -9,6 +9,7 @@ ghost use Rattle.std.specs.FinMap as map;
 ghost use Rattle.std.specs.Option.{unwrap_or};
 ghost use Rattle.std.specs.Prelude.{◌≡◌, ◌-◌, ◌<◌, ◌++◌, [], if◌then◌else◌, is_some, IfOk, OnOk, Some, length, map as mapped, slice_get, slice_set};
 
+use crate::changes::{insertion, movement, removal, replacement};
 use crate::measures::bytes_of;
 use command_set::changes::{place_of, with_keys};
 use command_set::rows::RowMap;
@@ -249,46 +250,6 @@ fn give_up(alloc: Global, store: &mut Plain, session: u16, handle: u16) -> Resul
     transaction.handles.take_away(handle)?;
     store.set_session(session, Session::Open(transaction));
     Ok(())
-}
-
-fn insertion(table: &u16, key: &i64, row: Row) -> Change
-    ensures { result ≡ Change.Insert table.now key.now row }
-{
-    Change::Insert {
-        table: *table,
-        key: *key,
-        row,
-    }
-}
-
-fn replacement(table: &u16, key: &i64, row: Row) -> Change
-    ensures { result ≡ Change.Update table.now key.now row }
-{
-    Change::Update {
-        table: *table,
-        key: *key,
-        row,
-    }
-}
-
-fn movement(table: &u16, from: &i64, to: &i64, row: Row) -> Change
-    ensures { result ≡ Change.Move table.now from.now to.now row }
-{
-    Change::Move {
-        table: *table,
-        from: *from,
-        to: *to,
-        row,
-    }
-}
-
-fn removal(table: &u16, key: &i64) -> Change
-    ensures { result ≡ Change.Remove table.now key.now }
-{
-    Change::Remove {
-        table: *table,
-        key: *key,
-    }
 }
 
 fn copy_of(row: &Row) -> Result<Row, AllocError>

@@ -3,6 +3,7 @@
 #![tactic(auto)]
 
 pub mod answers;
+pub mod changes;
 mod effects;
 pub mod fault;
 mod measures;

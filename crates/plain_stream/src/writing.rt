@@ -16,49 +16,9 @@ use command_set::rows::is_same;
 use command_set::state::Change;
 use command_set::{Command, SchemaList, Script, Set};
 use list_facts::ListOf;
+use plain_program::changes::{insertion, movement, removal, replacement};
 use std::alloc::{AllocError, Global};
 use tuple_layout::{Place, Row};
-
-// Keys go by reference into functions of their own, whose proofs then know their range.
-fn insert_of(table: &u16, key: &i64, row: Row) -> Change
-    ensures { result ≡ Change.Insert table.now key.now row }
-{
-    Change::Insert {
-        table: *table,
-        key: *key,
-        row,
-    }
-}
-
-fn update_of(table: &u16, key: &i64, row: Row) -> Change
-    ensures { result ≡ Change.Update table.now key.now row }
-{
-    Change::Update {
-        table: *table,
-        key: *key,
-        row,
-    }
-}
-
-fn move_of(table: &u16, from: &i64, to: &i64, row: Row) -> Change
-    ensures { result ≡ Change.Move table.now from.now to.now row }
-{
-    Change::Move {
-        table: *table,
-        from: *from,
-        to: *to,
-        row,
-    }
-}
-
-fn remove_of(table: &u16, key: &i64) -> Change
-    ensures { result ≡ Change.Remove table.now key.now }
-{
-    Change::Remove {
-        table: *table,
-        key: *key,
-    }
-}
 
 fn copy_of(change: &Change) -> Result<Change, AllocError>
     ensures { IfOk result (λ copy. copy ≡ change.now) }
@@ -66,11 +26,11 @@ fn copy_of(change: &Change) -> Result<Change, AllocError>
     match change {
         Change::Insert { table, key, row } => {
             let row = row.clone()?;
-            Ok(insert_of(table, key, row))
+            Ok(insertion(table, key, row))
         }
         Change::Update { table, key, row } => {
             let row = row.clone()?;
-            Ok(update_of(table, key, row))
+            Ok(replacement(table, key, row))
         }
         Change::Move {
             table,
@@ -79,9 +39,9 @@ fn copy_of(change: &Change) -> Result<Change, AllocError>
             row,
         } => {
             let row = row.clone()?;
-            Ok(move_of(table, from, to, row))
+            Ok(movement(table, from, to, row))
         }
-        Change::Remove { table, key } => Ok(remove_of(table, key)),
+        Change::Remove { table, key } => Ok(removal(table, key)),
     }
 }
 

@@ -1,0 +1,10 @@
+pub mod Laid
+pub mod Chosen
+pub mod Events
+pub mod Copied
+pub mod Worlds
+pub mod Cells
+pub mod Whole
+pub mod Held
+pub mod AtEnd
+pub mod Spare

@@ -95,7 +95,8 @@ told xacts snaps old r ready quiet P of tid version there =
 at_end : (number : ℕ) (xacts : Xacts) (snaps : Snaps) (old : Table) (r : Rewriting) → is_committed xacts r.xid ≡ true → AreQuiet xacts old.rows.pages → IsTable number xacts snaps old → IsReady xacts snaps old r → IsTable number xacts snaps (new_table r)
 at_end number xacts snaps old r committed quiet table ready = record {
   relation = ready.holds.relation ∙ table.relation;
-  tuples = by_copy (λ version. IsRowTuple (toast_rel_of number) r.rows.schema.storages version.key version.tuple) (λ copy among made still. subst (λ schema. IsRowTuple (toast_rel_of number) schema.storages copy.was.key (Version.tuple (version_of old.rows.schema.storages copy))) (sym schema_same) (copy_tuple number xacts snaps old r ready table copy among made));
+  tuples = by_copy (λ version. IsRowTuple (toast_rel_of number) r.rows.schema.storages version.key version.tuple)
+      (λ copy among made still. subst (λ schema. IsRowTuple (toast_rel_of number) schema.storages copy.was.key (Version.tuple (version_of old.rows.schema.storages copy))) (sym schema_same) (copy_tuple number xacts snaps old r ready table copy among made));
   whole = λ tid version pointer there protected. whole xacts snaps old r tid version pointer ready.columns ready.holds there;
   one = one_version xacts snaps old r table.one ready.holds;
   held = λ value_id. held number xacts snaps old r value_id committed quiet table ready;
@@ -110,7 +111,8 @@ at_end number xacts snaps old r committed quiet table ready = record {
     schema_same : r.rows.schema ≡ old.rows.schema
     schema_same = same_schema xacts snaps old r ready.holds
 
-    by_copy : (P : Version → Type 0) → ((copy : Copied) → Contains ready.holds.copies copy → IsCopy old r.toast (busy_at r.stage) copy → IsQuiet xacts copy.was → P (version_of old.rows.schema.storages copy)) → (tid : Tid) (version : Version) → item_in r.rows.pages tid ≡ Some version → P version
+    by_copy : (P : Version → Type 0) → ((copy : Copied) → Contains ready.holds.copies copy → IsCopy old r.toast (busy_at r.stage) copy → IsQuiet xacts copy.was → P (version_of old.rows.schema.storages copy))
+        → (tid : Tid) (version : Version) → item_in r.rows.pages tid ≡ Some version → P version
     by_copy = told xacts snaps old r ready quiet
 
 -- the rewrite's own transaction, which runs, has touched no version
@@ -120,7 +122,8 @@ untouched xacts old x key runs quiet = record {
   ender = λ tid version at same. clash (is_running xacts x) runs (quiet.ender tid version x at.there same).ended;
 }
 
-at_commit : (number : ℕ) (xacts : Xacts) (snaps : Snaps) (old : Table) (r : Rewriting) → is_running xacts r.xid ≡ true → IsRegistryOf xacts snaps → AreQuiet xacts old.rows.pages → IsTable number xacts snaps old → IsReady xacts snaps old r → IsTable number (after_commit xacts r.xid) snaps (new_table r)
+at_commit : (number : ℕ) (xacts : Xacts) (snaps : Snaps) (old : Table) (r : Rewriting) → is_running xacts r.xid ≡ true → IsRegistryOf xacts snaps → AreQuiet xacts old.rows.pages → IsTable number xacts snaps old
+    → IsReady xacts snaps old r → IsTable number (after_commit xacts r.xid) snaps (new_table r)
 at_commit number xacts snaps old r runs registry quiet table ready = at_end number (after_commit xacts r.xid) snaps old r
     (committed_commit xacts r.xid runs r.xid ∙ itself r.xid (is_committed xacts r.xid)) (quiet_commit xacts r.xid old.rows.pages runs quiet)
     (moments_keep.committed number xacts snaps r.xid old runs registry (λ y key others apart. inl (untouched xacts old r.xid key runs quiet)) table)

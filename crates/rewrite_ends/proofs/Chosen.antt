@@ -59,16 +59,22 @@ pub record IsQuiet (xacts : Xacts) (version : Version) : Type 0 where
 
 -- and what must be kept is copied, where no transaction that runs has put or ended it
 pub protected_chosen : (xacts : Xacts) (snaps : Snaps) (version : Version) → IsQuiet xacts version → is_protected xacts snaps version.inserter version.ender ≡ true → is_chosen xacts snaps version ≡ true
-protected_chosen xacts snaps version quiet protected = elim (test (seen_by_any xacts snaps version.inserter version.ender)) [
-  | inl seen ↦ or_right (is_live xacts version.inserter version.ender) (seen_by_any xacts snaps version.inserter version.ender) seen
-  | inr unseen ↦ or_left (is_live xacts version.inserter version.ender) (seen_by_any xacts snaps version.inserter version.ender) (live (is_committed xacts version.inserter) (option_map_or (is_committed xacts) version.ender false) (option_map_or (is_aborted xacts) version.ender true) (seen_by_any xacts snaps version.inserter version.ender) inserted unseen (by_ender version.ender quiet.ender) (ap (λ b. b || (is_committed xacts version.inserter && (not (option_map_or (is_committed xacts) version.ender false) || seen_by_any xacts snaps version.inserter version.ender))) (sym quiet.inserter.ended) ∙ protected))
-]
+protected_chosen xacts snaps version quiet protected =
+    let lives = is_live xacts version.inserter version.ender in
+    let seen = seen_by_any xacts snaps version.inserter version.ender in
+    elim (test seen) [
+      | inl sees ↦ or_right lives seen sees
+      | inr unseen ↦ or_left lives seen (live (is_committed xacts version.inserter) (option_map_or (is_committed xacts) version.ender false) (option_map_or (is_aborted xacts) version.ender true) seen inserted unseen (by_ender version.ender quiet.ender) kept)
+    ]
   where
     inserted : is_committed xacts version.inserter ≡ true
     inserted = elim (protected_inserter xacts snaps version.inserter version.ender protected) [
       | inl runs ↦ absurd (clash (is_running xacts version.inserter) runs quiet.inserter.ended)
       | inr committed ↦ committed
     ]
+
+    kept : (false || (is_committed xacts version.inserter && (not (option_map_or (is_committed xacts) version.ender false) || seen_by_any xacts snaps version.inserter version.ender))) ≡ true
+    kept = ap (λ b. b || (is_committed xacts version.inserter && (not (option_map_or (is_committed xacts) version.ender false) || seen_by_any xacts snaps version.inserter version.ender))) (sym quiet.inserter.ended) ∙ protected
 
     by_ender : (o : Option ℕ) → ((xid : ℕ) → o ≡ Some xid → IsOver xacts xid) → option_map_or (is_committed xacts) o false ≡ false → option_map_or (is_aborted xacts) o true ≡ true
     by_ender None over unended = refl
@@ -77,7 +83,7 @@ protected_chosen xacts snaps version quiet protected = elim (test (seen_by_any x
       | inr aborted ↦ aborted
     ]
 
-    live : (committed ended aborted seen : Bool) → committed ≡ true → seen ≡ false → (ended ≡ false → aborted ≡ true) → (false || (committed && (not ended || seen))) ≡ true → (committed && aborted) ≡ true
-    live true true aborted seen sure unseen by kept = absurd (clash seen kept unseen)
-    live true false aborted seen sure unseen by kept = by refl
-    live false ended aborted seen sure unseen by kept = absurd (cc)
+    live : (committed ended aborted visible : Bool) → committed ≡ true → visible ≡ false → (ended ≡ false → aborted ≡ true) → (false || (committed && (not ended || visible))) ≡ true → (committed && aborted) ≡ true
+    live true true aborted visible sure hidden by is = absurd (clash visible is hidden)
+    live true false aborted visible sure hidden by is = by refl
+    live false ended aborted visible sure hidden by is = absurd (cc)

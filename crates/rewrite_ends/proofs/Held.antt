@@ -93,7 +93,7 @@ old_holder old r copy value_id n was made here is = holder_from (λ tuple. has_i
 
 -- two that are there are one: a kept value's old versions were one, and an id was drawn once
 same_from : (number : ℕ) (xacts : Xacts) (snaps : Snaps) (old : Table) (r : Rewriting) (ready : IsReady xacts snaps old r) → IsTable number xacts snaps old → (own : Option ℕ) → Runs xacts own → (value_id : ℕ) (t u : Tid) (stamp its : Stamp)
-    → (first : IsNewHolder xacts old r ready.holds.copies value_id t stamp) → (second : IsNewHolder xacts old r ready.holds.copies value_id u its) → is_current xacts own stamp ≡ true → is_current xacts own its ≡ true → first.copy.from ≡ second.copy.from
+    → (first : IsNewHolder xacts old r ready.holds.copies value_id t stamp) (second : IsNewHolder xacts old r ready.holds.copies value_id u its) → is_current xacts own stamp ≡ true → is_current xacts own its ≡ true → first.copy.from ≡ second.copy.from
 same_from number xacts snaps old r ready table own runs value_id t u stamp its first second current current_too = by_ids (comes old r first.copy first.column first.pointer first.made first.here) (comes old r second.copy second.column second.pointer second.made second.here)
   where
     by_ids : Comes old first.copy first.column first.pointer → Comes old second.copy second.column second.pointer → first.copy.from ≡ second.copy.from

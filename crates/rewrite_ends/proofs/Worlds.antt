@@ -35,9 +35,16 @@ world_protected xacts snaps Latest version is there = current_is_protected xacts
 world_protected xacts snaps (Own x) version runs there = current_is_protected xacts snaps (Some x) (stamp_of version) runs there
 world_protected xacts snaps (Shown id) version is there = readers_are_safe.seen_is_protected xacts snaps id version.inserter version.ender None tt (by_held (held_at snaps id) refl)
   where
+    -- whether the world of what is registered under the id has the version
+    has : Option Held → Bool
+    has o = is_there (λ z. option_map_or (λ (held : Held). committed_in xacts held.snapshot z) o false) version.inserter version.ender
+
+    sees : Option Held → Bool
+    sees o = option_map_or (λ (held : Held). is_there (λ z. false || committed_in xacts held.snapshot z) version.inserter version.ender) o false
+
     by_held : (o : Option Held) → held_at snaps id ≡ o → sees_at xacts snaps id version.inserter version.ender None ≡ true
-    by_held None none = absurd (false≢true (ap (λ o. is_there (λ z. option_map_or (λ (held : Held). committed_in xacts held.snapshot z) o false) version.inserter version.ender) (sym none) ∙ there))
-    by_held (Some held) some = ap (λ o. option_map_or (λ (h : Held). is_there (λ z. false || committed_in xacts h.snapshot z) version.inserter version.ender) o false) some ∙ ap (λ o. is_there (λ z. option_map_or (λ (h : Held). committed_in xacts h.snapshot z) o false) version.inserter version.ender) (sym some) ∙ there
+    by_held None none = absurd (false≢true (ap has (sym none) ∙ there))
+    by_held (Some held) some = ap sees some ∙ ap has (sym some) ∙ there
 
 -- what a world has in the new table it has in the old one, where the copied version stands
 pub record IsShownOld (counts : ℕ → Bool) (old : Table) (r : Rewriting) (copies : List Copied) (key : ℤ) (tid : Tid) : Type 0 where

@@ -15,31 +15,6 @@ const FIRST: &str = "table e\nsession\nbegin rc\ninsert t1 1 x010203\nget t1 1\n
 
 const FIRST_REPLIES: &str = "s1.1 ok\ns1.2 ok\ns1.3 row 1 x010203\ns1.4 ok\n";
 
-// Three sessions: a row is claimed before it is whole, seen once it is committed, and refused to a third.
-// Its value is cut into two pieces.
-const THREE: &str = "table e
-session
-begin rc
-insert t1 1 c2500.0
-commit
-session
-begin rc
-get t1 1
-get t1 1
-commit
-session
-begin rc
-insert t1 1 x00
-commit
-go 1! 1 2! 2! 3! 3! 1! 1! 2! 2!
-";
-
-// The replies before the long row, and those behind it.
-const THREE_BEFORE: &str =
-    "s1.1 ok\ns1.2 ok\ns2.1 ok\ns2.2 none\ns3.1 ok\ns3.2 busy s1\ns1.3 ok\ns2.3 row 1 x";
-
-const THREE_BEHIND: &str = "\ns2.4 ok\ns3.3 rolled back\n";
-
 // Scripts of changes, handles and value ids, with what is written.
 const CHANGES: [(&str, &str); 4] = [
     // rows of two columns, changed, moved and taken away under repeatable read
@@ -70,8 +45,6 @@ const TWO_PIECES: &str = "table e\nsession\nbegin rc\ninsert t1 1 c2500.0\ncommi
 // One session, which puts a row of two long values where there is one id.
 const NO_ID: &str =
     "ids 16384 16384\ntable e e\nsession\nbegin rc\ninsert t1 1 c1996.0 c1996.1\ncommit\n";
-
-const DIGITS: &[u8; 16] = b"0123456789abcdef";
 
 #[test]
 fn scripts_are_replayed(rt: HostRuntime) -> Result<(), Fail> {
@@ -213,27 +186,6 @@ fn feeds_replayed(alloc: Global, count: usize) -> Result<Status, AllocError> {
     let mut sink = MemSink::new(alloc, 10, CallList::new(alloc))?;
     let mut kept = None;
     Ok(toast_replay(alloc, &words, &mut source, &mut sink, &mut kept))
-}
-
-#[test]
-fn three_sessions_take_turns_as_the_schedule_says(rt: HostRuntime) -> Result<(), Fail> {
-    let (status, sink) = replayed(rt.alloc(), THREE)?;
-    assert_eq!(rt; status, Status::Done);
-    assert_eq!(rt; sink.written(), three_replies(rt.alloc())?.as_slice());
-    Ok(())
-}
-
-// The replies of the three sessions. The 2,500 bytes of the row count from 0 to 250, again and again.
-fn three_replies(alloc: Global) -> Result<Vec<u8>, AllocError> {
-    let mut text = Vec::new(alloc);
-    text.extend_from_slice(THREE_BEFORE.as_bytes())?;
-    for at in 0..2500 {
-        let byte = at % 251;
-        text.push(DIGITS[byte / 16])?;
-        text.push(DIGITS[byte % 16])?;
-    }
-    text.extend_from_slice(THREE_BEHIND.as_bytes())?;
-    Ok(text)
 }
 
 #[test]

@@ -24,7 +24,7 @@ use Rattle.toast_vacuum.specs.Holds.{VacuumHolds}
 use Rattle.toast_vacuum.proofs.StoreSteps.{store_reaped, vacuums_stand}
 
 -- a sweep leaves the pins
-pins_swept : (index : Index) (leaf : Leaf) (dead : List Tid) → Index.pins (after_sweep index leaf dead) ≡ index.pins
+pub pins_swept : (index : Index) (leaf : Leaf) (dead : List Tid) → Index.pins (after_sweep index leaf dead) ≡ index.pins
 pins_swept index leaf dead = by_holder (holder_of index.pins leaf)
   where
     by_holder : (o : Option ℕ) → Index.pins (option_map_or (λ holder. index) o (swept_index index leaf dead)) ≡ index.pins

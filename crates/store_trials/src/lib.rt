@@ -1,5 +1,5 @@
-//! Tests of the stores by their public calls: the index of chunks, the versions of rows, saves, fetches
-//! and marks, vacuums, and what a table tells.
+//! Tests of the store of values by its public calls: the index of chunks, saves, fetches and marks, and
+//! vacuums.
 //!
 //! There are tests alone here, so that each of these crates is proved once.
 #![tactic(auto)]
@@ -13,8 +13,4 @@ mod reuses;
 #[cfg(test)]
 mod saves;
 #[cfg(test)]
-mod tables;
-#[cfg(test)]
 mod vacuums;
-#[cfg(test)]
-mod versions;

@@ -9,6 +9,7 @@ ghost use Rattle.toast_store.specs.Walks.{CanStep, Walking};
 ghost use Rattle.toast_vacuum.specs.Vacuums.{Vacuuming};
 ghost use Rattle.toast_vacuum.specs.Holds.{IsHorizon, RowVacuumHolds, VacuumHolds};
 
+use crate::saves::value_of;
 use chunk_index::Entry;
 use external_pointer::Pointer;
 use row_versions::RowVersions;
@@ -54,15 +55,6 @@ fn horizon(rt: &impl Abort, xacts: &XactTable) -> u64
 {
     assert!(rt; xacts.running().is_empty());
     xacts.next()
-}
-
-/// A value of so many bytes, counted up from 0.
-fn counted(alloc: Global, len: usize) -> Result<Bytes, AllocError> {
-    let mut value = Bytes::new(alloc);
-    for at in 0..len {
-        value.push((at % 251) as u8)?;
-    }
-    Ok(value)
 }
 
 /// Puts a chunk of a transaction and adds its entry.
@@ -219,7 +211,7 @@ fn chunk(store: &ToastStore, slot: u16) -> Option<&[u8]> {
 fn a_second_vacuum_ends_what_a_dropped_one_began(rt: HostRuntime) -> Result<(), Fail> {
     let alloc = rt.alloc();
     let xacts = two_over(&rt, alloc)?;
-    let value = counted(alloc, 2500)?;
+    let value = value_of(alloc, 2500)?;
     let value = value.as_slice();
     // After how many steps the first is dropped; the steps of the second, and the slots it makes dead.
     for (dropped, steps, removed) in [(0, 4, 2), (1, 4, 0), (2, 4, 0), (3, 2, 0), (4, 2, 0)] {

@@ -17,15 +17,8 @@ use Rattle.chunk_index.specs.Pinned.{holder_of}
 use Rattle.chunk_index.specs.Indexes.{Index, after_sweep, swept_index}
 use Rattle.toast_store.specs.Stores.{Store}
 use Rattle.store_trials.proofs.Assigned.{assigned_marked}
+use Rattle.store_trials.proofs.Readers.{pins_swept}
 use Rattle.store_trials.proofs.fetches.disturb.Goals as goal
-
--- a sweep leaves the pins
-pins_swept : (index : Index) (leaf : Leaf) (dead : List Tid) → Index.pins (after_sweep index leaf dead) ≡ index.pins
-pins_swept index leaf dead = by_holder (holder_of index.pins leaf)
-  where
-    by_holder : (o : Option ℕ) → Index.pins (option_map_or (λ holder. index) o (swept_index index leaf dead)) ≡ index.pins
-    by_holder None = refl
-    by_holder (Some holder) = refl
 
 -- transactions 3 and 4 were given their xids
 given : (xacts : Xacts) (xid : ℕ) → 5 ≤ next_xid xacts → 3 ≤ xid → xid ≤ 4 → IsAssigned xacts xid

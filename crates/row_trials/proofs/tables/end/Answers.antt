@@ -12,7 +12,7 @@ use Rattle.row_versions.specs.Versions.{ended}
 use Rattle.row_versions.specs.Relations.{Pages, pages_ended}
 use Rattle.row_versions.proofs.Events.{assigned_ended, item_of-ended, shown_normal}
 use Rattle.table_state.specs.Tables.{IsStored}
-use Rattle.store_trials.proofs.tables.end.Goals as goal
+use Rattle.row_trials.proofs.tables.end.Goals as goal
 
 ended_line : (schema : List Storage) (xid : ℕ) (line : LinePointer Version) (now : Version) → ((old : Version) → item_of line ≡ Some old → IsStored schema old.key old.tuple) → item_of (ended xid line) ≡ Some now → IsStored schema now.key now.tuple
 ended_line schema xid (Normal size version) now olds at = subst (λ (v : Version). IsStored schema v.key v.tuple) (same_Some (record version { ender = Some xid }) now at) (olds version refl)

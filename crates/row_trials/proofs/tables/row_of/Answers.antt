@@ -5,7 +5,7 @@ use Rattle.tuple_layout.specs.declared.cell.Cell.{Cell}
 use Rattle.tuple_layout.specs.declared.cell.Stored.{Stored}
 use Rattle.table_state.specs.Tables.{IsStored, stored_in}
 use Rattle.table_state.proofs.Tuples.{cells_of_tuple}
-use Rattle.store_trials.proofs.tables.row_of.Goals as goal
+use Rattle.row_trials.proofs.tables.row_of.Goals as goal
 
 -- the tuple of a stored row is one that can be read
 of_stored : (schema : List Storage) (stored : Stored) → length schema ≤ 8 → HasTuple schema stored → IsStored schema stored.key (tuple schema stored)

@@ -2,7 +2,7 @@ use Rattle.std.proofs.Common.{arith}
 use Rattle.slot_page.specs.Pages.{slot_of}
 use Rattle.xact_status.specs.Xacts.{IsAssigned}
 use Rattle.row_versions.proofs.Events.{assigned_ended, shown_normal}
-use Rattle.store_trials.proofs.versions.end.Goals as goal
+use Rattle.row_trials.proofs.versions.end.Goals as goal
 
 pub set_ender-requires : goal.set_ender-requires
 set_ender-requires g c = shown_normal (slot_of c.args.rel.now.pages c.args.tid) c.version_at.result c.version_at.ensures.version (cc c.is_some.ensures)

@@ -1,17 +1,16 @@
 //! Tests of the look-ups: on versions of every kind, on a row with a null, an inline value and one out of
 //! line, and beside the plain store's maps.
 
-ghost use Rattle.std.specs.Prelude.{◌≡◌, ◌≤◌, IfOk, OnErr, OnOk, length, true};
-ghost use Rattle.snapshot_registry.specs.Snapshots.{is_registered};
+ghost use Rattle.std.specs.Prelude.{◌≡◌, ◌≤◌, IfOk, OnErr, OnOk, length};
 ghost use Rattle.row_versions.specs.Relations.{AreAssigned, with_version};
 ghost use Rattle.row_versions.specs.Versions.{new_version};
 ghost use Rattle.tuple_layout.specs.Sizes.{largest_tuple};
 ghost use Rattle.xact_status.specs.Xacts.{next_xid};
 ghost use Rattle.table_state.specs.Tables.{AreStored, IsStored};
 
+use crate::shots::Shot;
 use row_versions::RowVersions;
 use slot_page::Tid;
-use snapshot_registry::{SnapId, SnapRegistry};
 use std::alloc::{AllocError, Global};
 use std::process::Abort;
 use std::test::Fail;
@@ -20,22 +19,6 @@ use tuple_layout::{
     Bytes, Cell, LARGEST_TUPLE, Pointer, Schema, Storage, Stored, TupleFault, read_tuple,
 };
 use xact_status::XactTable;
-
-/// A snapshot in a registry of its own.
-#[derive(Drop)]
-struct Shot {
-    registry: SnapRegistry,
-    id: SnapId,
-    ghost registered: { is_registered registry id ≡ true },
-}
-
-impl Shot {
-    fn take(alloc: Global, xacts: &XactTable) -> Result<Shot, AllocError> {
-        let mut registry = SnapRegistry::new(alloc);
-        let id = registry.take(xacts)?;
-        Ok(Shot { registry, id })
-    }
-}
 
 /// A table without a row.
 fn empty(alloc: Global, xacts: &XactTable, storages: &[Storage]) -> Result<Table, Fail>

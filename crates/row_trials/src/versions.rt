@@ -1,11 +1,10 @@
-ghost use Rattle.std.specs.Prelude.{◌≡◌, IfOk, length, true};
+ghost use Rattle.std.specs.Prelude.{◌≡◌, IfOk, length};
 ghost use Rattle.xact_status.specs.Xacts.{next_xid};
-ghost use Rattle.snapshot_registry.specs.Snapshots.{is_registered};
 ghost use Rattle.row_versions.specs.Relations.{AreAssigned};
 
+use crate::shots::Shot;
 use row_versions::{RowVersions, TidList};
 use slot_page::Tid;
-use snapshot_registry::{SnapId, SnapRegistry};
 use std::alloc::{AllocError, Global};
 use std::process::Abort;
 use std::test::Fail;
@@ -26,22 +25,6 @@ fn three_xacts(rt: &impl Abort, alloc: Global) -> Result<XactTable, AllocError>
     let _number = xacts.commit(committed);
     assert_eq!(rt; xacts.next(), 6);
     Ok(xacts)
-}
-
-/// A snapshot in a registry of its own.
-#[derive(Drop)]
-struct Shot {
-    registry: SnapRegistry,
-    id: SnapId,
-    ghost registered: { is_registered registry id ≡ true },
-}
-
-impl Shot {
-    fn take(alloc: Global, xacts: &XactTable) -> Result<Shot, AllocError> {
-        let mut registry = SnapRegistry::new(alloc);
-        let id = registry.take(xacts)?;
-        Ok(Shot { registry, id })
-    }
 }
 
 /// The bytes of a tuple.

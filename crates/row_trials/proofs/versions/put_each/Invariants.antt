@@ -1,5 +1,5 @@
 use Rattle.row_versions.specs.Relations.{AreAssigned}
-use Rattle.store_trials.proofs.versions.put_each.Given as goal
+use Rattle.row_trials.proofs.versions.put_each.Given as goal
 
 abbrev pub invariant-loop-key : goal.invariant-loop-key
 invariant-loop-key g l = AreAssigned l.xacts l.rel.pages

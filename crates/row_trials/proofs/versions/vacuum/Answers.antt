@@ -6,7 +6,7 @@ use Rattle.slot_page.specs.DeadSlots.{dead_tids}
 use Rattle.row_versions.proofs.Entries.{unnamed_after}
 use Rattle.slot_page.proofs.Gathered.{dead_tids_sorted, gathered_are, listed_at}
 use Rattle.row_versions.proofs.Events.{assigned_pruned, assigned_reaped}
-use Rattle.store_trials.proofs.versions.vacuum.Goals as goal
+use Rattle.row_trials.proofs.versions.vacuum.Goals as goal
 
 pub unindex-removed-requires-clause-sorted : goal.unindex-removed-requires-clause-sorted
 unindex-removed-requires-clause-sorted g c =

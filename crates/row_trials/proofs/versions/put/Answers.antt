@@ -2,7 +2,7 @@ use Rattle.std.proofs.Common.{arith}
 use Rattle.xact_status.specs.Xacts.{IsAssigned}
 use Rattle.heap_prune.proofs.Events.{new_stamp_assigned}
 use Rattle.row_versions.proofs.Events.{assigned_put}
-use Rattle.store_trials.proofs.versions.put.Goals as goal
+use Rattle.row_trials.proofs.versions.put.Goals as goal
 
 pub returns : goal.returns
 returns g c =

@@ -10,7 +10,7 @@ use Rattle.row_versions.specs.Versions.{new_version}
 use Rattle.row_versions.specs.Relations.{Pages}
 use Rattle.row_versions.proofs.Events.{assigned_put, item_of-put}
 use Rattle.table_state.specs.Tables.{IsStored}
-use Rattle.store_trials.proofs.tables.put_row.Goals as goal
+use Rattle.row_trials.proofs.tables.put_row.Goals as goal
 
 -- where each version before was one that can be read, so is each after it
 each_put : (schema : List Storage) (size : ℕ) (version : Version) (pages : Pages) → IsStored schema version.key version.tuple → ((tid : Tid) (old : Version) → item_in pages tid ≡ Some old → IsStored schema old.key old.tuple)

@@ -1,6 +1,5 @@
 -- Where no running transaction has put or ended a version, it is copied exactly where it must be kept.
-use Rattle.std.proofs.Common.{ℕ, ◌≡◌, ◌-◌, ◌⊎◌, inl, inr, Bool, true, false, not, ◌||◌, ◌&&◌, List, [], ◌∷◌, Option, Some, None, is_some, option_and_then, refl, sym, ap, ◌∙◌, arith}
-use Rattle.std.specs.List.{list_any}
+use Rattle.std.proofs.Common.{ℕ, ◌≡◌, ◌-◌, ◌⊎◌, inl, inr, Bool, true, false, not, ◌||◌, ◌&&◌, Option, Some, None, is_some, option_and_then, refl, sym, ap, ◌∙◌, arith}
 use Rattle.std.specs.Option.{option_map_or}
 use Rattle.std.proofs.lemmas.Option.{slice_get_cases}
 use Rattle.xact_status.specs.declared.Xact.{Xact}
@@ -9,12 +8,11 @@ use Rattle.xact_status.specs.Xacts.{Xacts, has_aborted, is_aborted, is_committed
 use Rattle.xact_status.specs.Versions.{is_live}
 use Rattle.xact_status.proofs.Events.{aborted_is_uncommitted}
 use Rattle.xact_status.proofs.Places.{xact_at_from}
-use Rattle.snapshot_registry.specs.declared.Snapshot.{Snapshot}
-use Rattle.snapshot_registry.specs.Snapshots.{Snaps, is_protected, seen_by_any, sees, snapshots}
-use Rattle.snapshot_registry.proofs.Unseen.{not_shown, uninserted_unseen}
+use Rattle.snapshot_registry.specs.Snapshots.{Snaps, is_protected, seen_by_any, sees}
 use Rattle.row_versions.specs.declared.version.Version.{Version}
 use Rattle.value_holders.proofs.Tests.{and_parts, clash, or_cases, or_left, or_right, protected_inserter, protected_seen, protected_unended, test}
 use Rattle.rewrite_facts.specs.Copies.{is_chosen}
+use Rattle.rewrite_facts.proofs.Inserted.{seen_committed}
 use Rattle.rewrite_ends.specs.Quiet.{IsOver}
 
 -- a transaction that is over has committed or aborted
@@ -28,17 +26,6 @@ over_is xacts xid over = elim (slice_get_cases xacts (xid - 3)).1 [
     by_xact (Running session) is = absurd (clash (is_running xacts xid) (ap (λ o. is_some (option_and_then session_of o)) is) over.ended)
     by_xact (Committed number) is = inl (ap (λ o. is_some (option_and_then number_of o)) is)
     by_xact Aborted is = inr (ap (λ o. option_map_or has_aborted o false) is)
-
--- what a registered snapshot sees was put by a transaction that has committed
-pub seen_committed : (xacts : Xacts) (snaps : Snaps) (inserter : ℕ) (ender : Option ℕ) → seen_by_any xacts snaps inserter ender ≡ true → is_committed xacts inserter ≡ true
-seen_committed xacts snaps inserter ender seen = elim (test (is_committed xacts inserter)) [
-  | inl committed ↦ committed
-  | inr not_yet ↦ absurd (clash (seen_by_any xacts snaps inserter ender) seen (none_sees not_yet (snapshots snaps)))
-]
-  where
-    none_sees : is_committed xacts inserter ≡ false → (all : List Snapshot) → list_any (λ snapshot. sees xacts snapshot inserter ender None) all ≡ false
-    none_sees not_yet [] = refl
-    none_sees not_yet (snapshot ∷ rest) = ap (λ b. b || list_any (λ s. sees xacts s inserter ender None) rest) (uninserted_unseen xacts snapshot inserter ender (not_shown xacts snapshot inserter not_yet)) ∙ none_sees not_yet rest
 
 -- what is live has an inserter that has committed, and no ender that has
 live_unended : (xacts : Xacts) (ender : Option ℕ) → option_map_or (is_aborted xacts) ender true ≡ true → option_map_or (is_committed xacts) ender false ≡ false

@@ -4,7 +4,7 @@ use Rattle.std.proofs.lemmas.Option.{none-some, same_Some}
 use Rattle.slot_page.specs.declared.line.Tid.{Tid}
 use Rattle.slot_page.specs.Pages.{item_in}
 use Rattle.slot_page.specs.NextItems.{IsEmptyFrom, is_before}
-use Rattle.xact_status.specs.Xacts.{Xacts}
+use Rattle.xact_status.specs.Xacts.{Xacts, is_committed}
 use Rattle.snapshot_registry.specs.Snapshots.{Snaps}
 use Rattle.row_versions.specs.declared.version.Version.{Version}
 use Rattle.row_versions.specs.Relations.{Relation}
@@ -117,6 +117,12 @@ copied xacts snaps old r tid version ready there =
     let found = new_version xacts snaps old r ready.holds tid version there in
     record { tid = found.copy.from; was = found.copy.was; there = found.made.old_one.there; same = subst (λ v. IsSameVersion old (new_table r) found.copy.was v) found.is (copy_same xacts snaps old r found.copy ready.columns ready.holds found.made) }
 
+-- a new version has the inserter of the old one, which had committed when that was visited
+inserted : (xacts : Xacts) (snaps : Snaps) (old : Table) (r : Rewriting) (tid : Tid) (version : Version) → RewriteHolds xacts snaps old r → item_in r.rows.pages tid ≡ Some version → is_committed xacts version.inserter ≡ true
+inserted xacts snaps old r tid version holds there =
+    let found = new_version xacts snaps old r holds tid version there in
+    ap (λ (v : Version). is_committed xacts v.inserter) (sym found.is) ∙ holds.inserted.each found.copy found.among
+
 pub made_ready : (xacts : Xacts) (snaps : Snaps) (old : Table) (r : Rewriting) (ready : IsReady xacts snaps old r) (copy : Copied) → Contains ready.holds.copies copy → IsCopy old r.toast None copy
 made_ready xacts snaps old r ready copy among = subst (λ stage. IsCopy old r.toast (busy_at stage) copy) ready.stage (ready.holds.made copy among)
 
@@ -125,4 +131,5 @@ copies_are_the_chosen = record {
   laid = λ xacts snaps old r ready. record { copies = ready.holds.copies; rows = ready.holds.rows; order = ready.holds.order; each = made_ready xacts snaps old r ready };
   copied = copied;
   chosen = chosen;
+  inserted = inserted;
 }

@@ -10,7 +10,7 @@ use Rattle.xact_status.proofs.Events.{assigned_assign, assigned_set, running_ass
 use Rattle.snapshot_registry.specs.Snapshots.{Snaps, after_take, after_share, after_release}
 use Rattle.row_versions.specs.declared.version.Version.{Version}
 use Rattle.row_versions.specs.Relations.{Pages}
-use Rattle.value_holders.proofs.Later.{IsLater, later_assign, later_commit, later_abort, later_take, later_share, later_release}
+use Rattle.value_holders.proofs.Later.{IsLater, committed_later, later_assign, later_commit, later_abort, later_take, later_share, later_release}
 use Rattle.value_holders.proofs.Tests.{not_true, clash}
 use Rattle.table_state.specs.declared.table.Table.{Table}
 use Rattle.rewrite_facts.specs.Copies.{AreVisited, Copied}
@@ -42,6 +42,10 @@ hold_later was now before after old r later quiet holds = record {
   order = holds.order;
   visited = visited_later was now before after old.rows.pages r.place holds.copies later quiet holds.visited;
   made = holds.made;
+  inserted = record {
+    each = λ copy held. committed_later was now before after later copy.was.inserter (holds.inserted.each copy held);
+    under_way = λ inserter is. committed_later was now before after later inserter (holds.inserted.under_way inserter is);
+  };
   relation = holds.relation;
   shared = holds.shared;
   chunks = holds.chunks;

@@ -47,11 +47,12 @@ pub record CopiesAreWhole : Type 0 where
       → item_in r.rows.pages tid ≡ Some version → Contains (pointers_in (cells_of (new_table r) version)) pointer → Whole r.toast pointer (value_in r.toast pointer)
   pub under_way : (xacts : Xacts) (snaps : Snaps) (old : Table) (r : Rewriting) → RewriteHolds xacts snaps old r → IsCopying r.stage → (version : Version) × IsOldVersion old r.place version
 
--- At the end the new versions are copies of old ones, and each old version that is chosen then has one
+-- At the end the new versions are copies of old ones, and each old version that is chosen then has one. A copy may be of one that is no more chosen then, but who put it has committed, at the end as before
 pub record CopiesAreTheChosen : Type 0 where
   pub laid : (xacts : Xacts) (snaps : Snaps) (old : Table) (r : Rewriting) → IsReady xacts snaps old r → AreLaid old r
   pub copied : (xacts : Xacts) (snaps : Snaps) (old : Table) (r : Rewriting) (tid : Tid) (version : Version) → IsReady xacts snaps old r → item_in r.rows.pages tid ≡ Some version → HasOldVersion old (new_table r) version
   pub chosen : (xacts : Xacts) (snaps : Snaps) (old : Table) (r : Rewriting) (tid : Tid) (version : Version) → IsReady xacts snaps old r → item_in old.rows.pages tid ≡ Some version → is_chosen xacts snaps version ≡ true → HasNewVersion old (new_table r) version
+  pub inserted : (xacts : Xacts) (snaps : Snaps) (old : Table) (r : Rewriting) (tid : Tid) (version : Version) → RewriteHolds xacts snaps old r → item_in r.rows.pages tid ≡ Some version → is_committed xacts version.inserter ≡ true
 
 -- Every world has the same row at each key in both tables, and in the new one too no two versions of it. AreOne: a fact of the old table
 pub record WorldsSame : Type 0 where

@@ -2,6 +2,7 @@ pub mod Orders
 pub mod Used
 pub mod Cells
 pub mod Widths
+pub mod Inserted
 pub mod Keeps
 pub mod Sizes
 pub mod Columns

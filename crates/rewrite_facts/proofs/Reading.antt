@@ -24,11 +24,12 @@ use Rattle.table_state.specs.declared.table.Table.{Table}
 use Rattle.rewrite_facts.specs.Chunks.{AreChunks, cells_at}
 use Rattle.rewrite_facts.specs.Copies.{AreWhole, Copied, IsCopy, IsIdOf, IsNewPointer, IsNewRow, IsOldVersion, id_at, ids_of}
 use Rattle.rewrite_facts.specs.Holds.{AreShared, IsFilling, IsReading, RewriteHolds, StandsAt}
-use Rattle.rewrite_facts.specs.Rewrites.{Rewriting, at_stage, busy_at, with_value}
+use Rattle.rewrite_facts.specs.Rewrites.{Rewriting, at_stage, busy_at, inserter_at, with_value}
 use Rattle.rewrite_facts.specs.declared.stage.RowCopy.{RowCopy}
 use Rattle.rewrite_facts.specs.declared.stage.RewriteStage.{RewriteStage}
 use Rattle.rewrite_facts.specs.declared.stage.RewriteStage.TheVariants.{Filling, Reading}
 use Rattle.rewrite_facts.proofs.Chunks.{chunks_restaged, idle_put}
+use Rattle.rewrite_facts.proofs.Inserted.{inserted_same}
 use Rattle.rewrite_facts.proofs.Columns.{filled}
 
 -- ---- other pins
@@ -85,14 +86,15 @@ walked_pins store later walk is = is ∙ ap (λ (i : Index). record store { inde
         ∙ ap (λ bounds. record { entries = store.index.entries; bounds = bounds; pins = Index.pins (index_walked store.index walk) }) (bounds_after store.index walk walk.stage)
 
 -- with other pins, and at another stage at which no value is on its way either
-pub hold_pinned : (xacts : Xacts) (snaps : Snaps) (old : Table) (r : Rewriting) (pins : List Pin) (stage : RewriteStage) → busy_at r.stage ≡ None → busy_at stage ≡ None → cells_at stage ≡ cells_at r.stage → StandsAt (with_values old (repinned old.toast pins)) (at_stage r stage) stage
+pub hold_pinned : (xacts : Xacts) (snaps : Snaps) (old : Table) (r : Rewriting) (pins : List Pin) (stage : RewriteStage) → busy_at r.stage ≡ None → busy_at stage ≡ None → cells_at stage ≡ cells_at r.stage → inserter_at stage ≡ inserter_at r.stage → StandsAt (with_values old (repinned old.toast pins)) (at_stage r stage) stage
     → RewriteHolds xacts snaps old r → RewriteHolds xacts snaps (with_values old (repinned old.toast pins)) (at_stage r stage)
-hold_pinned xacts snaps old r pins stage idle still cells stands holds = record {
+hold_pinned xacts snaps old r pins stage idle still cells same stands holds = record {
   copies = holds.copies;
   rows = holds.rows;
   order = holds.order;
   visited = holds.visited;
   made = λ copy held. copy_pinned old pins r.toast (busy_at stage) copy (subst (λ (b : Option ℕ). IsCopy old r.toast b copy) (idle ∙ sym still) (holds.made copy held));
+  inserted = inserted_same xacts holds.copies r.stage stage same holds.inserted;
   relation = holds.relation;
   shared = record { each = λ id other in_new in_old. AreShared.each (subst (AreShared old.toast r.toast) (idle ∙ sym still) holds.shared) id other in_new in_old };
   chunks = record { each = moved.each; once = moved.once };
@@ -109,7 +111,7 @@ same_ok a b e = cc
 pub hold_reading : (xacts : Xacts) (snaps : Snaps) (old : Table) (r : Rewriting) (copy : RowCopy) (at : ℕ) (fetch after : Fetching) (later : Store) → r.stage ≡ Reading copy at fetch → FetchSteps old.toast fetch later after More
     → RewriteHolds xacts snaps old r → RewriteHolds xacts snaps (with_values old later) (at_stage r (Reading copy at after))
 hold_reading xacts snaps old r copy at fetch after later stage steps holds = subst (λ (s : Store). RewriteHolds xacts snaps (with_values old s) (at_stage r (Reading copy at after))) (sym same)
-    (hold_pinned xacts snaps old r later.index.pins (Reading copy at after) (ap busy_at stage) refl (sym (ap cells_at stage)) (filling_pinned old later.index.pins r.place copy stands.0, reading) holds)
+    (hold_pinned xacts snaps old r later.index.pins (Reading copy at after) (ap busy_at stage) refl (sym (ap cells_at stage)) (sym (ap inserter_at stage)) (filling_pinned old later.index.pins r.place copy stands.0, reading) holds)
   where
     same : later ≡ repinned old.toast later.index.pins
     same = walked_pins old.toast later fetch.walk steps.store
@@ -134,7 +136,7 @@ hold_reading xacts snaps old r copy at fetch after later stage steps holds = sub
 pub hold_read : (xacts : Xacts) (snaps : Snaps) (old : Table) (r : Rewriting) (copy : RowCopy) (at : ℕ) (fetch after : Fetching) (later : Store) (value : List ℕ) → r.stage ≡ Reading copy at fetch → IsStore old.toast → FetchSteps old.toast fetch later after (Done value)
     → RewriteHolds xacts snaps old r → RewriteHolds xacts snaps (with_values old later) (at_stage r (Filling (with_value copy at value)))
 hold_read xacts snaps old r copy at fetch after later value stage sound steps holds = subst (λ (s : Store). RewriteHolds xacts snaps (with_values old s) (at_stage r (Filling (with_value copy at value)))) (sym same)
-    (hold_pinned xacts snaps old r later.index.pins (Filling (with_value copy at value)) (ap busy_at stage) refl (sym (ap cells_at stage)) (filling_pinned old later.index.pins r.place (with_value copy at value) full, free) holds)
+    (hold_pinned xacts snaps old r later.index.pins (Filling (with_value copy at value)) (ap busy_at stage) refl (sym (ap cells_at stage)) (sym (ap inserter_at stage)) (filling_pinned old later.index.pins r.place (with_value copy at value) full, free) holds)
   where
     same : later ≡ repinned old.toast later.index.pins
     same = walked_pins old.toast later fetch.walk steps.store

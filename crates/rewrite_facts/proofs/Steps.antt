@@ -21,11 +21,12 @@ use Rattle.toast_store.specs.declared.piece_job.PieceStage.{PieceStage}
 use Rattle.rewrite_facts.specs.Chunks.{AreChunks, cells_at, put_at}
 use Rattle.rewrite_facts.specs.Copies.{IsCopy, is_chosen}
 use Rattle.rewrite_facts.specs.Holds.{AreShared, HoldsNoPin, IsLaying, IsPlacing, RewriteHolds, StandsAt}
-use Rattle.rewrite_facts.specs.Rewrites.{Rewriting, at_stage, busy_at, new_rewrite, restored}
+use Rattle.rewrite_facts.specs.Rewrites.{Rewriting, at_stage, busy_at, inserter_at, new_rewrite, restored}
 use Rattle.rewrite_facts.specs.declared.stage.RowCopy.{RowCopy}
 use Rattle.rewrite_facts.specs.declared.stage.RewriteStage.{RewriteStage}
 use Rattle.rewrite_facts.specs.declared.stage.RewriteStage.TheVariants.{Placing, Laying}
 use Rattle.rewrite_facts.proofs.Chunks.{chunks_begun, chunks_laid, chunks_none, chunks_visited, idle_put}
+use Rattle.rewrite_facts.proofs.Inserted.{inserted_same, inserted_visited}
 use Rattle.rewrite_facts.proofs.Keeps.{Spares, copy_kept, placing_kept, shared_kept}
 use Rattle.rewrite_facts.proofs.Orders.{none_before, order_later, visited_passed}
 
@@ -38,6 +39,7 @@ hold_begin xacts snaps table session xid old free = record {
   order = tt;
   visited = record { each = λ t version there before chosen. absurd (none_before t before) };
   made = λ copy held. absurd (none_in_nil copy held);
+  inserted = record { each = λ copy held. absurd (none_in_nil copy held); under_way = λ inserter is. absurd (none-some inserter is) };
   relation = refl;
   shared = record { each = λ id other in_new in_old. absurd (false≢true in_new) };
   chunks = chunks_none old.toast (new_rewrite table session xid old) (λ tid. refl) refl;
@@ -50,14 +52,15 @@ hold_begin xacts snaps table session xid old free = record {
 abbrev pub changed : Rewriting → Store → RewriteStage → Rewriting
 changed r later stage = record r { toast = later; stage = stage }
 
-pub hold_changed : (xacts : Xacts) (snaps : Snaps) (old : Table) (r : Rewriting) (later : Store) (stage : RewriteStage) → Spares r.toast later (busy_at r.stage) (busy_at stage) → AreShared old.toast later (busy_at stage) → later.rel.rel_id ≡ r.toast.rel.rel_id
+pub hold_changed : (xacts : Xacts) (snaps : Snaps) (old : Table) (r : Rewriting) (later : Store) (stage : RewriteStage) → Spares r.toast later (busy_at r.stage) (busy_at stage) → AreShared old.toast later (busy_at stage) → later.rel.rel_id ≡ r.toast.rel.rel_id → inserter_at stage ≡ inserter_at r.stage
     → StandsAt old (changed r later stage) stage → (holds : RewriteHolds xacts snaps old r) → AreChunks old.toast holds.copies (changed r later stage) → RewriteHolds xacts snaps old (changed r later stage)
-hold_changed xacts snaps old r later stage spares shared relation stands holds chunks = record {
+hold_changed xacts snaps old r later stage spares shared relation same stands holds chunks = record {
   copies = holds.copies;
   rows = holds.rows;
   order = holds.order;
   visited = holds.visited;
   made = λ copy held. copy_kept old r.toast later (busy_at r.stage) (busy_at stage) copy spares (holds.made copy held);
+  inserted = inserted_same xacts holds.copies r.stage stage same holds.inserted;
   relation = relation ∙ holds.relation;
   shared = shared;
   chunks = chunks;
@@ -65,13 +68,14 @@ hold_changed xacts snaps old r later stage spares shared relation stands holds c
 }
 
 -- only the stage, where no value comes on its way
-pub hold_restaged : (xacts : Xacts) (snaps : Snaps) (old : Table) (r : Rewriting) (stage : RewriteStage) → busy_at r.stage ≡ None → busy_at stage ≡ None → StandsAt old (at_stage r stage) stage → (holds : RewriteHolds xacts snaps old r) → AreChunks old.toast holds.copies (at_stage r stage) → RewriteHolds xacts snaps old (at_stage r stage)
-hold_restaged xacts snaps old r stage idle still stands holds chunks = record {
+pub hold_restaged : (xacts : Xacts) (snaps : Snaps) (old : Table) (r : Rewriting) (stage : RewriteStage) → busy_at r.stage ≡ None → busy_at stage ≡ None → inserter_at stage ≡ inserter_at r.stage → StandsAt old (at_stage r stage) stage → (holds : RewriteHolds xacts snaps old r) → AreChunks old.toast holds.copies (at_stage r stage) → RewriteHolds xacts snaps old (at_stage r stage)
+hold_restaged xacts snaps old r stage idle still same stands holds chunks = record {
   copies = holds.copies;
   rows = holds.rows;
   order = holds.order;
   visited = holds.visited;
   made = λ copy held. subst (λ (b : Option ℕ). IsCopy old r.toast b copy) (idle ∙ sym still) (holds.made copy held);
+  inserted = inserted_same xacts holds.copies r.stage stage same holds.inserted;
   relation = holds.relation;
   shared = subst (AreShared old.toast r.toast) (idle ∙ sym still) holds.shared;
   chunks = chunks;
@@ -81,13 +85,15 @@ hold_restaged xacts snaps old r stage idle still stands holds chunks = record {
 -- versions are passed over up to a place, none of which is chosen
 pub hold_visited : (xacts : Xacts) (snaps : Snaps) (old : Table) (r : Rewriting) (to : Tid) (stage : RewriteStage) → busy_at r.stage ≡ None → busy_at stage ≡ None → cells_at r.stage ≡ [] → cells_at stage ≡ [] → is_before to r.place ≡ false
     → ((t : Tid) (version : Version) → item_in old.rows.pages t ≡ Some version → is_before t r.place ≡ false → is_before t to ≡ true → is_chosen xacts snaps version ≡ false)
+    → ((version : Version) → item_in old.rows.pages to ≡ Some version → inserter_at stage ≡ Some version.inserter → is_chosen xacts snaps version ≡ true)
     → StandsAt old (record r { place = to; stage = stage }) stage → RewriteHolds xacts snaps old r → RewriteHolds xacts snaps old (record r { place = to; stage = stage })
-hold_visited xacts snaps old r to stage idle still before after not_before passed stands holds = record {
+hold_visited xacts snaps old r to stage idle still before after not_before passed chosen stands holds = record {
   copies = holds.copies;
   rows = holds.rows;
   order = order_later r.place to holds.copies not_before holds.order;
   visited = visited_passed xacts snaps old.rows.pages r.place to holds.copies passed holds.visited;
   made = λ copy held. subst (λ (b : Option ℕ). IsCopy old r.toast b copy) (idle ∙ sym still) (holds.made copy held);
+  inserted = inserted_visited xacts snaps old (record r { place = to; stage = stage }) holds.copies r.stage chosen stands holds.inserted;
   relation = holds.relation;
   shared = subst (AreShared old.toast r.toast) (idle ∙ sym still) holds.shared;
   chunks = chunks_visited old.toast holds.copies r to stage (still ∙ sym idle) (idle_put stage still ∙ sym (idle_put r.stage idle)) before after holds.chunks;
@@ -107,7 +113,7 @@ spares_begun new id unused = record {
 pub hold_begun : (xacts : Xacts) (snaps : Snaps) (old : Table) (r : Rewriting) (copy taken : RowCopy) (columns : List ℕ) (at : ℕ) (job : Piecing) → r.stage ≡ Placing copy columns at → restored taken columns at job.value ≡ copy → is_used r.toast job.value_id ≡ false
     → IsPlacing old r.toast None r.place copy columns at → HoldsNoPin old.toast r.session → IsLaying old.toast r.toast r.xid copy columns at job
     → RewriteHolds xacts snaps old r → RewriteHolds xacts snaps old (at_stage r (Laying taken columns at job))
-hold_begun xacts snaps old r copy taken columns at job stage whole unused placing free laying holds = hold_changed xacts snaps old r r.toast (Laying taken columns at job) spares shared refl
+hold_begun xacts snaps old r copy taken columns at job stage whole unused placing free laying holds = hold_changed xacts snaps old r r.toast (Laying taken columns at job) spares shared refl (ap (λ (c : RowCopy). Some c.stamp.inserter) whole ∙ sym (ap inserter_at stage))
     (subst (λ (c : RowCopy). IsPlacing old r.toast (Some job.value_id) r.place c columns at × (IsLaying old.toast r.toast r.xid c columns at job × HoldsNoPin old.toast r.session)) (sym whole) (placing_kept old r.toast r.toast None (Some job.value_id) r.place copy columns at begun placing, (laying, free))) holds
     (chunks_begun old.toast holds.copies r (Laying taken columns at job) (ap busy_at stage) (ap put_at stage) (ap RowCopy.cells whole ∙ sym (ap cells_at stage)) holds.chunks)
   where
@@ -163,7 +169,7 @@ hold_laid xacts snaps old r copy columns at job after later stage sound step goi
     shared_was = subst (λ (s : RewriteStage). AreShared old.toast r.toast (busy_at s)) stage holds.shared
 
     goes : PiecesStep r.toast job later next → pieces.IsLaying next.stage → RewriteHolds xacts snaps old (changed r later (Laying copy columns at next))
-    goes its still = hold_changed xacts snaps old r later (Laying copy columns at next) spares shared (same_rel r.toast later job next its) (placed, (laid_on, stands.1.1)) holds chunks
+    goes its still = hold_changed xacts snaps old r later (Laying copy columns at next) spares shared (same_rel r.toast later job next its) (sym (ap inserter_at stage)) (placed, (laid_on, stands.1.1)) holds chunks
       where
         chunks : AreChunks old.toast holds.copies (changed r later (Laying copy columns at next))
         chunks = chunks_laid old.toast holds.copies r (changed r later (Laying copy columns at next)) job next its laying.xid_is refl refl (ap busy_at stage) (ap put_at stage) refl (sym (ap cells_at stage)) refl holds.chunks

@@ -30,13 +30,14 @@ use Rattle.table_state.specs.Cells.{cells_in}
 use Rattle.rewrite_facts.specs.Chunks.{HasPointer, Made, UnderWay, cells_at, put_at, put_by}
 use Rattle.rewrite_facts.specs.Copies.{Copied, IsCopy, IsIdOf, IsNewPointer, id_at, next_place, version_of, with_cells}
 use Rattle.rewrite_facts.specs.Holds.{AreShared, CanGoOut, IsLaying, IsPlacing, RewriteHolds, StandsAt, pieces_under}
-use Rattle.rewrite_facts.specs.Rewrites.{Rewriting, at_stage, busy_at, column_at, is_used_in, restored, with_cell}
+use Rattle.rewrite_facts.specs.Rewrites.{Rewriting, at_stage, busy_at, column_at, inserter_at, is_used_in, restored, with_cell}
 use Rattle.rewrite_facts.specs.declared.stage.RowCopy.{RowCopy}
 use Rattle.rewrite_facts.specs.declared.stage.RewriteStage.{RewriteStage}
 use Rattle.rewrite_facts.specs.declared.stage.RewriteStage.TheVariants.{Visiting, Placing, Laying}
 use Rattle.rewrite_facts.proofs.Cells.{also_there, had_pointer, id_is, value_at}
 use Rattle.rewrite_facts.proofs.Chunks.{IsMore, chunks_made, chunks_over, chunks_shared}
 use Rattle.rewrite_facts.proofs.Columns.{all_out, column_out}
+use Rattle.rewrite_facts.proofs.Inserted.{inserted_made}
 use Rattle.rewrite_facts.proofs.Keeps.{Spares, placing_kept, shared_kept}
 use Rattle.rewrite_facts.proofs.Orders.{here_next, visited_copied}
 use Rattle.rewrite_facts.proofs.Steps.{changed, hold_begun, hold_changed, hold_restaged, same_rel, spares_step}
@@ -89,7 +90,7 @@ had_value old new r copy columns at n id value inline had placing = record {
 pub hold_shared : (xacts : Xacts) (snaps : Snaps) (old : Table) (r : Rewriting) (copy : RowCopy) (columns : List ℕ) (at column : ℕ) (p : Pointer) (value : List ℕ) → r.stage ≡ Placing copy columns at → slice_get columns at ≡ Some column → slice_get copy.cells (column - 1) ≡ Some (Inline value)
     → id_at copy.ids (column - 1) ≡ Some p.value_id → is_used r.toast p.value_id ≡ true → IsInRange p → p.size ≡ length value → p.toast_rel ≡ r.toast.rel.rel_id
     → RewriteHolds xacts snaps old r → RewriteHolds xacts snaps old (at_stage r (Placing (with_cell copy column (Out p)) columns (at + 1)))
-hold_shared xacts snaps old r copy columns at column p value stage here inline had used in_range size own holds = hold_restaged xacts snaps old r (Placing (with_cell copy column (Out p)) columns (at + 1)) (ap busy_at stage) refl (column_out old r.toast r.place copy columns at column p value here inline in_range whole (own ∙ holds.relation) id stands.0, stands.1) holds
+hold_shared xacts snaps old r copy columns at column p value stage here inline had used in_range size own holds = hold_restaged xacts snaps old r (Placing (with_cell copy column (Out p)) columns (at + 1)) (ap busy_at stage) refl (sym (ap inserter_at stage)) (column_out old r.toast r.place copy columns at column p value here inline in_range whole (own ∙ holds.relation) id stands.0, stands.1) holds
     (chunks_shared old.toast holds.copies r (Placing (with_cell copy column (Out p)) columns (at + 1)) (column - 1) p (sym (ap busy_at stage)) (sym (ap put_at stage)) more (λ unused. false≢true (sym unused ∙ used_old)) holds.chunks)
   where
     more : IsMore r (at_stage r (Placing (with_cell copy column (Out p)) columns (at + 1))) (column - 1) p
@@ -185,7 +186,7 @@ hold_drawn xacts snaps old r copy taken columns at column id value ids stage ful
 pub hold_over : (xacts : Xacts) (snaps : Snaps) (old : Table) (r : Rewriting) (copy : RowCopy) (columns : List ℕ) (at column : ℕ) (job after : Piecing) (later : Store) (p : Pointer) → r.stage ≡ Laying copy columns at job → slice_get columns at ≡ Some column → IsStore r.toast → PiecesStep r.toast job later after → after.stage ≡ Over
     → IsInRange p → p ≡ pointer_to after later.rel.rel_id → RewriteHolds xacts snaps old r → RewriteHolds xacts snaps old (changed r later (Placing (with_cell copy column (Out p)) columns (at + 1)))
 hold_over xacts snaps old r copy columns at column job after later p stage here sound step over in_range is holds =
-    hold_changed xacts snaps old r later (Placing (with_cell copy column (Out p)) columns (at + 1)) spares shared relation
+    hold_changed xacts snaps old r later (Placing (with_cell copy column (Out p)) columns (at + 1)) spares shared relation (sym (ap inserter_at stage))
     (subst (λ (c : RowCopy). IsPlacing old later None r.place c columns (at + 1)) twice (column_out old later r.place full columns at column p job.value here inline in_range whole (ap (λ (q : Pointer). q.toast_rel) is ∙ relation ∙ holds.relation) id placed), stands.1.1) holds
     (chunks_over old.toast holds.copies r (changed r later (Placing (with_cell copy column (Out p)) columns (at + 1))) job after (column - 1) p step laying.xid_is refl (ap busy_at stage) (ap put_at stage) (ap put_by (sym over)) more (ap (λ (q : Pointer). q.value_id) is ∙ same_id) fresh holds.chunks)
   where
@@ -291,6 +292,7 @@ hold_version xacts snaps old r copy columns at rows stage over put holds = recor
     | inl is ↦ subst (IsCopy old r.toast None) is this
     | inr earlier ↦ subst (λ (b : Option ℕ). IsCopy old r.toast b other) (ap busy_at stage) (holds.made other earlier)
   ];
+  inserted = inserted_made xacts made holds.copies r.stage Visiting (ap inserter_at stage ∙ ap (λ (s : Stamp). Some s.inserter) placing.of.stamp) refl holds.inserted;
   relation = holds.relation;
   shared = subst (AreShared old.toast r.toast) (ap busy_at stage) holds.shared;
   chunks = chunks_made old.toast holds.copies r (record r { rows = rows; place = next_place r.place; stage = Visiting }) made refl refl refl (ap busy_at stage) (ap put_at stage) refl (sym (ap cells_at stage)) holds.chunks;

@@ -10,7 +10,7 @@ use Rattle.tuple_layout.specs.declared.cell.Cell.TheVariants.{Inline, Out}
 use Rattle.tuple_layout.specs.Sizes.{least_out}
 use Rattle.tuple_layout.specs.Tuples.{HasTuple, cell_widths}
 use Rattle.tuple_toaster.specs.Pushed.{moved}
-use Rattle.xact_status.specs.Xacts.{Xacts}
+use Rattle.xact_status.specs.Xacts.{Xacts, is_committed}
 use Rattle.snapshot_registry.specs.Snapshots.{Snaps}
 use Rattle.row_versions.specs.declared.version.Version.{Version}
 use Rattle.row_versions.specs.Versions.{version_stamp}
@@ -26,7 +26,7 @@ use Rattle.table_state.specs.declared.table.Table.{Table}
 use Rattle.table_state.specs.Rows.{cell_value}
 use Rattle.rewrite_facts.specs.Copies.{AreInOrder, AreRowCells, AreVisited, AreWhole, Copied, IsCopy, IsIdOf, IsNewRow, IsOldVersion, chosen_widths, id_at, ids_of, laid, row_in_old, with_cells}
 use Rattle.rewrite_facts.specs.Chunks.{AreChunks}
-use Rattle.rewrite_facts.specs.Rewrites.{Rewriting, busy_at, restored}
+use Rattle.rewrite_facts.specs.Rewrites.{Rewriting, busy_at, inserter_at, restored}
 use Rattle.rewrite_facts.specs.declared.stage.RowCopy.{RowCopy}
 use Rattle.rewrite_facts.specs.declared.stage.RewriteStage.{RewriteStage}
 use Rattle.rewrite_facts.specs.declared.stage.RewriteStage.TheVariants as stages
@@ -117,6 +117,11 @@ StandsAt old r stages.Ready = IsEmptyFrom old.rows.pages r.place
 pub record AreShared (old new : Store) (busy : Option ℕ) : Type 0 where
   pub each : (id : ℕ) → busy ≢ Some id → is_used new id ≡ true → is_used old id ≡ true → pieces_under new id ≡ pieces_under old id
 
+-- who put each version that was copied, or is being copied, has committed, as at its visit
+pub record AreInserted (xacts : Xacts) (copies : List Copied) (stage : RewriteStage) : Type 0 where
+  pub each : (copy : Copied) → Contains copies copy → is_committed xacts copy.was.inserter ≡ true
+  pub under_way : (inserter : ℕ) → inserter_at stage ≡ Some inserter → is_committed xacts inserter ≡ true
+
 -- what holds of a rewrite
 pub record RewriteHolds (xacts : Xacts) (snaps : Snaps) (old : Table) (r : Rewriting) : Type 0 where
   -- the copies so far; the new rows are what putting them one by one gives, in the old order
@@ -126,6 +131,7 @@ pub record RewriteHolds (xacts : Xacts) (snaps : Snaps) (old : Table) (r : Rewri
   -- each version that was visited and is chosen has its copy, and each copy has its version's row
   pub visited : AreVisited xacts snaps old.rows.pages r.place copies
   pub made : (copy : Copied) → Contains copies copy → IsCopy old r.toast (busy_at r.stage) copy
+  pub inserted : AreInserted xacts copies r.stage
   -- the new values beside the old ones
   pub relation : r.toast.rel.rel_id ≡ old.toast.rel.rel_id
   pub shared : AreShared old.toast r.toast (busy_at r.stage)

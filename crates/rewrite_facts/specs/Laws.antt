@@ -24,7 +24,7 @@ use Rattle.table_state.specs.declared.table.Table.{Table}
 use Rattle.rewrite_facts.specs.Copies.{IsCopyable, chosen_widths, id_at, inline_widths, is_chosen, next_place, row_in_old, with_cells}
 use Rattle.rewrite_facts.specs.Chunks.{cells_at}
 use Rattle.rewrite_facts.specs.Holds.{HoldsNoPin, IsFilling, IsPlacing, RewriteHolds, StandsAt}
-use Rattle.rewrite_facts.specs.Rewrites.{Rewriting, at_stage, busy_at, is_used_in, new_rewrite, restored, with_cell, with_value}
+use Rattle.rewrite_facts.specs.Rewrites.{Rewriting, at_stage, busy_at, inserter_at, is_used_in, new_rewrite, restored, with_cell, with_value}
 use Rattle.rewrite_facts.specs.declared.stage.RowCopy.{RowCopy}
 use Rattle.rewrite_facts.specs.declared.stage.RewriteStage.{RewriteStage}
 use Rattle.rewrite_facts.specs.declared.stage.RewriteStage.TheVariants.{Visiting, Filling, Reading, Placing, Laying}
@@ -32,9 +32,10 @@ use Rattle.rewrite_facts.specs.declared.stage.RewriteStage.TheVariants.{Visiting
 pub record StepsKeep : Type 0 where
   -- before the first step nothing is copied
   pub begun : (xacts : Xacts) (snaps : Snaps) (table session xid : ℕ) (old : Table) → HoldsNoPin old.toast session → RewriteHolds xacts snaps old (new_rewrite table session xid old)
-  -- a visit passes over versions that are not chosen, to one that is, or to the end
+  -- a visit passes over versions that are not chosen, to one that is, or to the end; a version that comes to be copied is chosen
   pub visited : (xacts : Xacts) (snaps : Snaps) (old : Table) (r : Rewriting) (to : Tid) (stage : RewriteStage) → busy_at r.stage ≡ None → busy_at stage ≡ None → cells_at r.stage ≡ [] → cells_at stage ≡ [] → is_before to r.place ≡ false
       → ((t : Tid) (version : Version) → item_in old.rows.pages t ≡ Some version → is_before t r.place ≡ false → is_before t to ≡ true → is_chosen xacts snaps version ≡ false)
+      → ((version : Version) → item_in old.rows.pages to ≡ Some version → inserter_at stage ≡ Some version.inserter → is_chosen xacts snaps version ≡ true)
       → StandsAt old (record r { place = to; stage = stage }) stage → RewriteHolds xacts snaps old r → RewriteHolds xacts snaps old (record r { place = to; stage = stage })
   -- a read goes on, or is over with the value of its column; the old store has other pins then
   pub reading : (xacts : Xacts) (snaps : Snaps) (old : Table) (r : Rewriting) (copy : RowCopy) (at : ℕ) (fetch after : Fetching) (later : Store) → r.stage ≡ Reading copy at fetch → FetchSteps old.toast fetch later after More

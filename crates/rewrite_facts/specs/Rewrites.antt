@@ -72,6 +72,15 @@ busy_at (Placing copy columns at) = None
 busy_at (Laying copy columns at pieces) = Some (Piecing.value_id pieces)
 busy_at Ready = None
 
+-- who put the version that is being copied
+abbrev pub inserter_at : RewriteStage → Option ℕ
+inserter_at Visiting = None
+inserter_at (Filling copy) = Some copy.stamp.inserter
+inserter_at (Reading copy at fetch) = Some copy.stamp.inserter
+inserter_at (Placing copy columns at) = Some copy.stamp.inserter
+inserter_at (Laying copy columns at pieces) = Some copy.stamp.inserter
+inserter_at Ready = None
+
 -- what a step answers, by where the rewrite stands then
 abbrev pub answer_at : RewriteStage → RewriteStep
 answer_at Visiting = steps.More

@@ -34,7 +34,7 @@ use Rattle.table_state.specs.declared.table.Table.{Table}
 use Rattle.rewrite_facts.specs.Chunks.{cells_at, put_at}
 use Rattle.rewrite_facts.specs.Copies.{IsCopyable, id_at, inline_widths, row_in_old}
 use Rattle.rewrite_facts.specs.Holds.{IsFilling, IsPlacing, IsReading, RewriteHolds, StandsAt}
-use Rattle.rewrite_facts.specs.Rewrites.{Rewriting, at_stage, busy_at, restored, with_cell}
+use Rattle.rewrite_facts.specs.Rewrites.{Rewriting, at_stage, busy_at, inserter_at, restored, with_cell}
 use Rattle.rewrite_facts.specs.declared.stage.RowCopy.{RowCopy}
 use Rattle.rewrite_facts.specs.declared.stage.RewriteStage.{RewriteStage}
 use Rattle.rewrite_facts.specs.declared.stage.RewriteStage.TheVariants.{Visiting, Filling, Reading, Placing, Laying, Ready}
@@ -52,10 +52,10 @@ pub stop_copyable : (xacts : Xacts) (snaps : Snaps) (old : Table) (place : Tid) 
 stop_copyable xacts snaps old place version can stop there = can.each place version there (stop.chosen version there)
 
 -- the next version that is copied
-pub visited_version : (xacts : Xacts) (snaps : Snaps) (old : Table) (r : Rewriting) (to : Tid) (version : Version) (copy : RowCopy) → r.stage ≡ Visiting → ArePassed xacts snaps old.rows.pages r.place to → item_in old.rows.pages to ≡ Some version → IsCopyable old version
+pub visited_version : (xacts : Xacts) (snaps : Snaps) (old : Table) (r : Rewriting) (to : Tid) (version : Version) (copy : RowCopy) → r.stage ≡ Visiting → ArePassed xacts snaps old.rows.pages r.place to → IsStop xacts snaps old.rows.pages to → item_in old.rows.pages to ≡ Some version → IsCopyable old version
     → copy ≡ copy_of old.rows.schema.storages version → RewriteHolds xacts snaps old r → RewriteHolds xacts snaps old (record r { place = to; stage = Filling copy })
-visited_version xacts snaps old r to version copy stage passed there can is holds = subst (λ (c : RowCopy). RewriteHolds xacts snaps old (record r { place = to; stage = Filling c })) (sym is)
-    (hold_visited xacts snaps old r to (Filling (copy_of old.rows.schema.storages version)) (ap busy_at stage) refl (ap cells_at stage) refl passed.not_before passed.none (filling, subst (StandsAt old r) stage holds.stage) holds)
+visited_version xacts snaps old r to version copy stage passed stop there can is holds = subst (λ (c : RowCopy). RewriteHolds xacts snaps old (record r { place = to; stage = Filling c })) (sym is)
+    (hold_visited xacts snaps old r to (Filling (copy_of old.rows.schema.storages version)) (ap busy_at stage) refl (ap cells_at stage) refl passed.not_before passed.none (λ v at same. stop.chosen v at) (filling, subst (StandsAt old r) stage holds.stage) holds)
   where
     filling : IsFilling old to (copy_of old.rows.schema.storages version)
     filling = record {
@@ -70,7 +70,7 @@ visited_version xacts snaps old r to version copy stage passed there can is hold
 -- or the end
 pub visited_end : (xacts : Xacts) (snaps : Snaps) (old : Table) (r : Rewriting) (to : Tid) → r.stage ≡ Visiting → ArePassed xacts snaps old.rows.pages r.place to → IsStop xacts snaps old.rows.pages to → item_in old.rows.pages to ≡ None
     → RewriteHolds xacts snaps old r → RewriteHolds xacts snaps old (record r { place = to; stage = Ready })
-visited_end xacts snaps old r to stage passed stop none holds = hold_visited xacts snaps old r to Ready (ap busy_at stage) refl (ap cells_at stage) refl passed.not_before passed.none (stop.end none) holds
+visited_end xacts snaps old r to stage passed stop none holds = hold_visited xacts snaps old r to Ready (ap busy_at stage) refl (ap cells_at stage) refl passed.not_before passed.none (λ v at same. stop.chosen v at) (stop.end none) holds
 
 -- ---- reads
 
@@ -109,7 +109,7 @@ filled_on xacts snaps old r copy (Laying same columns at pieces) stage sound is 
 filled_on xacts snaps old r copy Ready stage sound is holds = absurd is
 filled_on xacts snaps old r copy (Placing same columns at) stage sound is holds =
     let stands = stands_here xacts snaps old r (Filling copy) stage holds in
-    hold_restaged xacts snaps old r (Placing same columns at) (ap busy_at stage) refl
+    hold_restaged xacts snaps old r (Placing same columns at) (ap busy_at stage) refl (ap (λ (c : RowCopy). Some c.stamp.inserter) is.0 ∙ sym (ap inserter_at stage))
     (subst (λ (n : ℕ). IsPlacing old r.toast None r.place same columns n) (sym is.1.1.1) (subst (λ (c : RowCopy). IsPlacing old r.toast None r.place c columns 0) (sym is.0) (planned old r.toast r.place copy columns is.1.0 is.1.1.0 stands.0)), stands.1) holds
     (chunks_planned old.toast holds.copies r (Placing same columns at) (sym (ap busy_at stage)) (sym (ap put_at stage)) (ap cells_at stage) (subst HaveNoPointer (ap RowCopy.cells (sym is.0)) is.1.0) holds.chunks)
 filled_on xacts snaps old r copy (Reading same at fetch) stage sound is holds =
@@ -126,7 +126,7 @@ filled_on xacts snaps old r copy (Reading same at fetch) stage sound is holds =
       can = begun old.toast.index (Fetching.walk (new_fetch p span r.session)) p.value_id (first_of span) (end_of span) r.session refl stands.1;
       some = begun_some p r.session sizes.0;
     } in
-    hold_restaged xacts snaps old r (Reading same at fetch) (ap busy_at stage) refl
+    hold_restaged xacts snaps old r (Reading same at fetch) (ap busy_at stage) refl (ap (λ (c : RowCopy). Some c.stamp.inserter) is.0 ∙ sym (ap inserter_at stage))
     (subst (IsFilling old r.place) (sym is.0) stands.0, subst (λ (c : RowCopy). IsReading old r.session c at fetch) (sym is.0) (subst (IsReading old r.session copy at) (sym is.1.2) reading)) holds
     (chunks_restaged old.toast holds.copies r (Reading same at fetch) (sym (ap busy_at stage)) (sym (ap put_at stage)) (sym (ap cells_at stage)) holds.chunks)
   where

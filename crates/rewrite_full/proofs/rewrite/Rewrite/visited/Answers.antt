@@ -29,7 +29,7 @@ returns-in_ok-copy-in-Visiting-clause-holds c =
     let holds = subst (λ (r : Rewriting). RewriteHolds c.args.old.now.xacts.now c.args.old.now.snaps.now old (at_stage r c.args.stage)) (sym c.self.view_is) c.requires.holds in
     let there = sym c.in-Some.ensures.version in
     let can = stop_copyable c.args.old.now.xacts.now c.args.old.now.snaps.now old c.next_chosen-place.result c.in-Some.version.now c.requires.can c.next_chosen-place.ensures.stop there in
-    visited_version c.args.old.now.xacts.now c.args.old.now.snaps.now old (at_stage view c.args.stage) c.next_chosen-place.result c.in-Some.version.now c.in_ok-copy-in-Visiting.copy c.in-Visiting.is c.next_chosen-place.ensures.passed there can (c.in_ok-copy-in-Visiting.ensures ∙ ap (λ (s : TableSchema). copy_of s.storages c.in-Some.version.now) c.schema.ensures.schema) holds
+    visited_version c.args.old.now.xacts.now c.args.old.now.snaps.now old (at_stage view c.args.stage) c.next_chosen-place.result c.in-Some.version.now c.in_ok-copy-in-Visiting.copy c.in-Visiting.is c.next_chosen-place.ensures.passed c.next_chosen-place.ensures.stop there can (c.in_ok-copy-in-Visiting.ensures ∙ ap (λ (s : TableSchema). copy_of s.storages c.in-Some.version.now) c.schema.ensures.schema) holds
 
 pub returns-in_ok-copy-in-Visiting-clause-left : goal.returns-in_ok-copy-in-Visiting-clause-left
 returns-in_ok-copy-in-Visiting-clause-left c =

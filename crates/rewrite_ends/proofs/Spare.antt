@@ -67,4 +67,4 @@ row_undead : (xacts : Xacts) (snaps : Snaps) (old : Table) (r : Rewriting) (tid 
 row_undead xacts snaps old r tid holds dead = none_dead old.rows.schema holds.copies tid (subst (λ (rel : Relation). IsDead (slot_of rel.pages tid)) holds.rows dead)
 
 pub nothing_is_spare : NothingIsSpare
-nothing_is_spare = record { chunk = chunk_had; named = chunk_named; row = row_undead }
+nothing_is_spare = record { chunk = chunk_had; named = chunk_named; row = row_undead; slot = λ xacts snaps old r tid holds. holds.chunks.undead tid }

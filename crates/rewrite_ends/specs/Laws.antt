@@ -71,8 +71,9 @@ pub record TableAtEnd : Type 0 where
   pub at_commit : (number : ℕ) (xacts : Xacts) (snaps : Snaps) (old : Table) (r : Rewriting) → is_running xacts r.xid ≡ true → IsRegistryOf xacts snaps → AreQuiet xacts old.rows.pages → IsTable number xacts snaps old → IsReady xacts snaps old r
       → IsTable number (after_commit xacts r.xid) snaps (new_table r)
 
--- Nothing else is in the new relations: each chunk is of a value that some version has, and the index names it; and no slot of the rows is dead
+-- Nothing else is in the new relations: each chunk is of a value that some version has, and the index names it; and no slot of the rows or of the chunks is dead
 pub record NothingIsSpare : Type 0 where
   pub chunk : (xacts : Xacts) (snaps : Snaps) (old : Table) (r : Rewriting) (tid : Tid) (chunk : Chunk) → IsReady xacts snaps old r → item_in r.toast.rel.pages tid ≡ Some chunk → IsHad (new_table r) chunk.value_id
   pub named : (xacts : Xacts) (snaps : Snaps) (old : Table) (r : Rewriting) (tid : Tid) (chunk : Chunk) → IsReady xacts snaps old r → item_in r.toast.rel.pages tid ≡ Some chunk → IsNamed r.toast.index.entries tid
   pub row : (xacts : Xacts) (snaps : Snaps) (old : Table) (r : Rewriting) (tid : Tid) → RewriteHolds xacts snaps old r → IsDead (slot_of r.rows.pages tid) → ⊥
+  pub slot : (xacts : Xacts) (snaps : Snaps) (old : Table) (r : Rewriting) (tid : Tid) → RewriteHolds xacts snaps old r → IsDead (slot_of r.toast.rel.pages tid) → ⊥

@@ -4,7 +4,9 @@ use Rattle.std.proofs.lemmas.Option.{none-some, same_Some, slice_get_within}
 use Rattle.list_facts.proofs.Changed.{after_set, get_set_other, get_set_same}
 use Rattle.list_facts.proofs.Members.{cases_in, first_in, later_in, none_in_nil}
 use Rattle.slot_page.specs.declared.line.Tid.{Tid}
-use Rattle.slot_page.specs.Pages.{item_in}
+use Rattle.slot_page.specs.Pages.{item_in, slot_of}
+use Rattle.slot_page.specs.Slots.{IsDead}
+use Rattle.slot_page.proofs.Pages.{slot_of-put}
 use Rattle.external_pointer.specs.declared.external.Pointer.{Pointer}
 use Rattle.tuple_layout.specs.declared.cell.Cell.{Cell}
 use Rattle.tuple_layout.specs.declared.cell.Cell.TheVariants.{Inline, Out}
@@ -44,6 +46,7 @@ pub chunks_stay : (old : Store) (copies later : List Copied) (r after : Rewritin
     → PointersStay copies r later after → PointersStay later after copies r → AreChunks old copies r → AreChunks old later after
 chunks_stay old copies later r after xid store busy put stay back chunks = record {
   each = λ tid chunk there. one tid chunk (chunks.each tid chunk (subst (λ (s : Store). item_in s.rel.pages tid ≡ Some chunk) store there));
+  undead = λ tid dead. chunks.undead tid (subst (λ (s : Store). IsDead (slot_of s.rel.pages tid)) store dead);
   once = λ from other n k p q first second same unused. chunks.once from other n k p q (back from n p first) (back other k q second) same unused;
 }
   where
@@ -70,6 +73,7 @@ chunks_restaged old copies r stage busy put cells = chunks_stay old copies copie
 pub chunks_begun : (old : Store) (copies : List Copied) (r : Rewriting) (stage : RewriteStage) → busy_at r.stage ≡ None → put_at r.stage ≡ None → cells_at stage ≡ cells_at r.stage → AreChunks old copies r → AreChunks old copies (at_stage r stage)
 chunks_begun old copies r stage idle none cells chunks = record {
   each = λ tid chunk there. one tid chunk (chunks.each tid chunk there);
+  undead = chunks.undead;
   once = λ from other n k p q first second same unused. chunks.once from other n k p q (back from n p first) (back other k q second) same unused;
 }
   where
@@ -184,6 +188,7 @@ pub chunks_shared : (old : Store) (copies : List Copied) (r : Rewriting) (stage 
     → (is_used old pointer.value_id ≡ false → ⊥) → AreChunks old copies r → AreChunks old copies (at_stage r stage)
 chunks_shared old copies r stage k pointer busy put more used chunks = record {
   each = λ tid chunk there. one tid chunk (chunks.each tid chunk there);
+  undead = chunks.undead;
   once = once_more old copies r (at_stage r stage) k pointer more (λ from n p has same unused. used unused) chunks;
 }
   where
@@ -241,6 +246,18 @@ piece_laid old later job after tid chunk step there = by_stage job.stage refl (a
       ];
     }
 
+-- no slot is dead after it, if none was
+undead_laid : (old later : Store) (job after : Piecing) → PiecesStep old job later after → ((tid : Tid) → IsDead (slot_of old.rel.pages tid) → ⊥) → (tid : Tid) → IsDead (slot_of later.rel.pages tid) → ⊥
+undead_laid old later job after step undead tid dead = by_stage job.stage step.rel
+  where
+    by_stage : (s : PieceStage) → later.rel ≡ rel_after old.rel job s → ⊥
+    by_stage (Putting seq) rel = elim (slot_of-put (tuple_size job.value seq) (chunk_of job seq) old.rel.pages tid) [
+      | inl same ↦ undead tid (subst (λ line. IsDead line) (ap (λ (r : chunks.Relation). slot_of r.pages tid) rel ∙ same) dead)
+      | inr put ↦ subst (λ line. IsDead line) (ap (λ (r : chunks.Relation). slot_of r.pages tid) rel ∙ put.1) dead
+    ]
+    by_stage (Indexing seq put) rel = undead tid (subst (λ (r : chunks.Relation). IsDead (slot_of r.pages tid)) rel dead)
+    by_stage Over rel = undead tid (subst (λ (r : chunks.Relation). IsDead (slot_of r.pages tid)) rel dead)
+
 -- each chunk after such a step, where the value that is on its way stays so, or is then owned
 pub each_laid : (copies : List Copied) (r after : Rewriting) (job next : Piecing) → PiecesStep r.toast job after.toast next → job.xid ≡ r.xid → after.xid ≡ r.xid → busy_at r.stage ≡ Some job.value_id → put_at r.stage ≡ put_by job.stage → put_at after.stage ≡ put_by next.stage
     → PointersStay copies r copies after → (busy_at after.stage ≡ Some job.value_id) ⊎ IsOwned copies after job.value_id
@@ -278,9 +295,10 @@ idle_put (Laying copy columns at job) idle = absurd (none-some (Piecing.value_id
 idle_put Ready idle = refl
 
 -- before the first step there is no chunk
-pub chunks_none : (old : Store) (r : Rewriting) → ((tid : Tid) → item_in r.toast.rel.pages tid ≡ None) → cells_at r.stage ≡ [] → AreChunks old [] r
-chunks_none old r empty cells = record {
+pub chunks_none : (old : Store) (r : Rewriting) → ((tid : Tid) → item_in r.toast.rel.pages tid ≡ None) → ((tid : Tid) → IsDead (slot_of r.toast.rel.pages tid) → ⊥) → cells_at r.stage ≡ [] → AreChunks old [] r
+chunks_none old r empty undead cells = record {
   each = λ tid chunk there. absurd (none-some chunk (sym (empty tid) ∙ there));
+  undead = undead;
   once = λ from other n k p q first second same unused. absurd (no_pointer from n p first);
 }
   where
@@ -295,6 +313,7 @@ pub chunks_laid : (old : Store) (copies : List Copied) (r after : Rewriting) (jo
     → cells_at after.stage ≡ cells_at r.stage → busy_at after.stage ≡ Some job.value_id → AreChunks old copies r → AreChunks old copies after
 chunks_laid old copies r after job next step by same place busy put then cells still chunks = record {
   each = each_laid copies r after job next step by same busy put then stay (inl still) chunks.each;
+  undead = undead_laid r.toast after.toast job next step chunks.undead;
   once = λ from other n k p q first second id unused. chunks.once from other n k p q (back from n p first) (back other k q second) id unused;
 }
   where
@@ -309,6 +328,7 @@ pub chunks_over : (old : Store) (copies : List Copied) (r after : Rewriting) (jo
     → IsMore r after k pointer → pointer.value_id ≡ job.value_id → ((from : Tid) (n : ℕ) (p : Pointer) → HasPointer copies r from n p → p.value_id ≡ pointer.value_id → ⊥) → AreChunks old copies r → AreChunks old copies after
 chunks_over old copies r after job next k pointer step by same busy put then more id fresh chunks = record {
   each = each_laid copies r after job next step by same busy put then (more_stays copies r after k pointer more) (inr owned) chunks.each;
+  undead = undead_laid r.toast after.toast job next step chunks.undead;
   once = once_more old copies r after k pointer more (λ from n p has its unused. fresh from n p has its) chunks;
 }
   where

@@ -97,7 +97,7 @@ hold_pinned xacts snaps old r pins stage idle still cells same stands holds = re
   inserted = inserted_same xacts holds.copies r.stage stage same holds.inserted;
   relation = holds.relation;
   shared = record { each = λ id other in_new in_old. AreShared.each (subst (AreShared old.toast r.toast) (idle ∙ sym still) holds.shared) id other in_new in_old };
-  chunks = record { each = moved.each; once = moved.once };
+  chunks = record { each = moved.each; undead = moved.undead; once = moved.once };
   stage = stands;
 }
   where

@@ -42,7 +42,7 @@ hold_begin xacts snaps table session xid old free = record {
   inserted = record { each = λ copy held. absurd (none_in_nil copy held); under_way = λ inserter is. absurd (none-some inserter is) };
   relation = refl;
   shared = record { each = λ id other in_new in_old. absurd (false≢true in_new) };
-  chunks = chunks_none old.toast (new_rewrite table session xid old) (λ tid. refl) refl;
+  chunks = chunks_none old.toast (new_rewrite table session xid old) (λ tid. refl) (λ tid dead. dead) refl;
   stage = free;
 }
 

@@ -1,7 +1,8 @@
 -- What is true of each chunk that a rewrite has put, and of the pointers to the new values.
 use Rattle.std.specs.Prelude.{ℕ, ◌≡◌, ◌⊎◌, false, Option, Some, None, List, [], Contains, slice_get}
 use Rattle.slot_page.specs.declared.line.Tid.{Tid}
-use Rattle.slot_page.specs.Pages.{item_in}
+use Rattle.slot_page.specs.Pages.{item_in, slot_of}
+use Rattle.slot_page.specs.Slots.{IsDead}
 use Rattle.external_pointer.specs.declared.external.Pointer.{Pointer}
 use Rattle.tuple_layout.specs.declared.cell.Cell.{Cell}
 use Rattle.tuple_layout.specs.declared.cell.Cell.TheVariants.{Out}
@@ -66,7 +67,8 @@ pub record IsNewChunk (copies : List Copied) (r : Rewriting) (tid : Tid) (chunk 
   pub owned : (busy_at r.stage ≡ Some chunk.value_id) ⊎ IsOwned copies r chunk.value_id
   pub named : (put_at r.stage ≡ Some tid) ⊎ IsNamed r.toast.index.entries tid
 
--- no other chunk is there, and an id that the old store does not use was drawn for one column alone
+-- no other chunk is there, no slot is dead, since chunks are only put, and an id that the old store does not use was drawn for one column alone
 pub record AreChunks (old : Store) (copies : List Copied) (r : Rewriting) : Type 0 where
   pub each : (tid : Tid) (chunk : Chunk) → item_in r.toast.rel.pages tid ≡ Some chunk → IsNewChunk copies r tid chunk
+  pub undead : (tid : Tid) → IsDead (slot_of r.toast.rel.pages tid) → ⊥
   pub once : (from other : Tid) (n k : ℕ) (p q : Pointer) → HasPointer copies r from n p → HasPointer copies r other k q → p.value_id ≡ q.value_id → is_used old p.value_id ≡ false → (from ≡ other) × (n ≡ k)

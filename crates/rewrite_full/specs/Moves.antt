@@ -8,22 +8,25 @@ use Rattle.slice_fetch.specs.declared.Span.{Span}
 use Rattle.tuple_layout.specs.declared.Storage.{Storage}
 use Rattle.tuple_layout.specs.declared.cell.Cell.{Cell}
 use Rattle.tuple_layout.specs.declared.cell.Cell.TheVariants.{Inline, Out}
-use Rattle.tuple_layout.specs.Sizes.{least_out}
-use Rattle.tuple_layout.specs.Tuples.{cell_widths}
+use Rattle.tuple_layout.specs.Schemas.{HasColumns}
+use Rattle.tuple_layout.specs.Sizes.{largest_tuple, least_out}
+use Rattle.tuple_layout.specs.Tuples.{cell_widths, row_size, tuple}
 use Rattle.table_state.specs.Tables.{longest_value}
 use Rattle.toast_store.specs.Stores.{Store, is_used}
-use Rattle.tuple_toaster.specs.Pushed.{pushed, tuple_target}
+use Rattle.tuple_toaster.specs.Pushed.{all_moved_size, pushed, tuple_target}
 use Rattle.xact_status.specs.Xacts.{Xacts}
 use Rattle.snapshot_registry.specs.Snapshots.{Snaps}
 use Rattle.row_versions.specs.declared.version.Version.{Version}
-use Rattle.row_versions.specs.Versions.{version_stamp}
-use Rattle.row_versions.specs.Relations.{Pages}
+use Rattle.row_versions.specs.Versions.{stamped_version, version_stamp}
+use Rattle.row_versions.specs.Relations.{IsRelation, Pages, Relation, with_version}
 use Rattle.toast_store.specs.Fetches.{new_fetch}
 use Rattle.table_state.specs.declared.table.Table.{Table}
 use Rattle.table_state.specs.Cells.{cells_in}
-use Rattle.rewrite_facts.specs.Copies.{IsCopyable, id_at, id_of, is_chosen}
-use Rattle.rewrite_facts.specs.Left.{IsProgress, left_at}
-use Rattle.rewrite_facts.specs.Rewrites.{Rewriting, answer_at}
+use Rattle.rewrite_facts.specs.Copies.{IsCopyable, id_at, id_of, is_chosen, next_place, with_cells}
+use Rattle.rewrite_facts.specs.Holds.{RewriteHolds}
+use Rattle.rewrite_facts.specs.Left.{IsProgress, left, left_at}
+use Rattle.rewrite_facts.specs.Rewrites.{Rewriting, answer_at, at_stage, table_of}
+use Rattle.rewrite_facts.specs.declared.stage.RewriteStep.{RewriteStep}
 use Rattle.rewrite_facts.specs.declared.stage.RowCopy.{RowCopy}
 use Rattle.rewrite_facts.specs.declared.stage.RewriteStage.{RewriteStage}
 use Rattle.rewrite_facts.specs.declared.stage.RewriteStage.TheVariants.{Visiting, Filling, Reading, Placing, Laying, Ready}
@@ -31,6 +34,10 @@ use Rattle.rewrite_facts.specs.declared.stage.RewriteStage.TheVariants.{Visiting
 -- each version that is chosen can be copied
 pub record CanCopy (xacts : Xacts) (snaps : Snaps) (old : Table) : Type 0 where
   pub each : (tid : Tid) (version : Version) → item_in old.rows.pages tid ≡ Some version → is_chosen xacts snaps version ≡ true → IsCopyable old version
+
+-- what holds of a rewrite at a stage, beside its old relations
+abbrev pub HoldsAt : Xacts → Snaps → Relation → Store → Rewriting → RewriteStage → Type 0
+HoldsAt xacts snaps rows toast r stage = RewriteHolds xacts snaps (table_of rows toast) (at_stage r stage)
 
 -- ---- visits
 
@@ -43,6 +50,22 @@ pub record ArePassed (xacts : Xacts) (snaps : Snaps) (pages : Pages) (from to : 
 pub record IsStop (xacts : Xacts) (snaps : Snaps) (pages : Pages) (to : Tid) : Type 0 where
   pub chosen : (version : Version) → item_in pages to ≡ Some version → is_chosen xacts snaps version ≡ true
   pub end : item_in pages to ≡ None → IsEmptyFrom pages to
+
+-- the way from a place to the next version that is chosen, or to the end
+pub record IsNextStop (xacts : Xacts) (snaps : Snaps) (pages : Pages) (from to : Tid) : Type 0 where
+  pub passed : ArePassed xacts snaps pages from to
+  pub stop : IsStop xacts snaps pages to
+
+-- a rewrite is at a version yet, or past it
+pub data IsAtOrPast (at place : Tid) : Type 0 where
+  At : place ≡ at → IsAtOrPast at place
+  Past : place ≡ next_place at → IsAtOrPast at place
+
+-- a rewrite takes up the next version that is chosen, by how transactions and snapshots stand then
+pub record TakesUp (xacts : Xacts) (snaps : Snaps) (pages : Pages) (from to : Tid) : Type 0 where
+  pub at : Tid
+  pub next : IsNextStop xacts snaps pages from at
+  pub there : IsAtOrPast at to
 
 -- the copy of a version before its first value is read
 abbrev pub copy_of : List Storage → Version → RowCopy
@@ -92,6 +115,18 @@ IsFilled Ready = ⊤
 
 -- ---- columns that go out
 
+-- with all out that may go a row fits on a page
+abbrev pub FitsOnceOut : List Storage → List Cell → Type 0
+FitsOnceOut schema cells = HasColumns (length schema) → all_moved_size schema (cell_widths cells) ≤ largest_tuple
+
+-- a copy does, as it is
+abbrev pub FitsPage : Relation → RowCopy → Type 0
+FitsPage rows copy = IsRelation rows → HasColumns (length rows.schema.storages) → row_size rows.schema.storages copy.cells ≤ largest_tuple
+
+-- a rewrite whose new rows have a copy, put with who put and ended its version, and which is past that
+abbrev pub with_copy : List Storage → Rewriting → RowCopy → Rewriting
+with_copy schema r copy = record r { rows = with_version r.rows (stamped_version copy.key copy.stamp (tuple schema (with_cells copy.key copy.cells))); place = next_place r.place }
+
 -- a column has an inline value that may go out
 pub record HasInline (copy : RowCopy) (column : ℕ) : Type 0 where
   pub value : List ℕ
@@ -117,6 +152,10 @@ abbrev pub IsUnshared : Store → RowCopy → List ℕ → ℕ → Type 0
 IsUnshared new copy columns at = (column id : ℕ) → slice_get columns at ≡ Some column → id_at copy.ids (column - 1) ≡ Some id → is_used new id ≡ false
 
 -- ---- steps left
+
+-- a rewrite has fewer steps left than before a step, or is ready and has none
+abbrev pub Falls : Table → Rewriting → Table → Rewriting → RewriteStep → Type 0
+Falls old before later after = IsProgress (left old before) (left later after)
 
 -- a rewrite at a stage has no more steps left than one had
 abbrev pub HasNoMore : Table → Rewriting → RewriteStage → Rewriting → RewriteStage → Type 0

@@ -10,7 +10,7 @@ ghost use Rattle.tuple_layout.specs.Tuples.{IsWithinLimits, cell_widths};
 ghost use Rattle.tuple_toaster.specs.Pushed.{all_moved_size, pushed, tuple_target};
 ghost use Rattle.table_state.specs.Tables.{IsStored};
 ghost use Rattle.rewrite_facts.specs.Copies.{id_of};
-ghost use Rattle.rewrite_full.specs.Moves.{HaveNoPointer, IsNextOf, copy_of};
+ghost use Rattle.rewrite_full.specs.Moves.{FitsOnceOut, HaveNoPointer, IsNextOf, copy_of};
 
 use external_pointer::Pointer;
 use rewrite_facts::{IdList, RewriteStage, RowCopy};
@@ -88,7 +88,7 @@ fn first_out(cells: &[Cell]) -> Option<(usize, Pointer)>
 fn columns_of(schema: &Schema, cells: &[Cell]) -> OutColumns
     requires one_each { length cells.now ≡ length schema.now.storages }
     requires limits { All IsWithinLimits cells.now }
-    requires fits { HasColumns (length schema.now.storages) → all_moved_size schema.now.storages (cell_widths cells.now) ≤ largest_tuple }
+    requires fits { FitsOnceOut schema.now.storages cells.now }
     ensures { result ≡ pushed schema.now.storages (cell_widths cells.now) tuple_target }
 {
     if cells.len() > schema.storages().len() {
@@ -110,7 +110,7 @@ pub(crate) fn next_of(
 ) -> Result<RewriteStage, AllocError>
     requires one_each { length copy.cells ≡ length schema.now.storages }
     requires limits { All IsWithinLimits copy.cells }
-    requires fits { HaveNoPointer copy.cells → HasColumns (length schema.now.storages) → all_moved_size schema.now.storages (cell_widths copy.cells) ≤ largest_tuple }
+    requires fits { HaveNoPointer copy.cells → FitsOnceOut schema.now.storages copy.cells }
     ensures { IfOk result (IsNextOf schema.now.storages session copy) }
 {
     let Some((at, pointer)) = first_out(copy.cells.as_slice()) else {

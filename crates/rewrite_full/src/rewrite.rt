@@ -20,7 +20,7 @@ ghost use Rattle.rewrite_facts.specs.Holds.{RewriteHolds, StandsAt};
 ghost use Rattle.rewrite_facts.specs.Left.{IsProgress, left};
 ghost use Rattle.rewrite_facts.specs.Rewrites.{answer_at, at_stage, column_at, new_rewrite, table_of};
 ghost use Rattle.rewrite_facts.specs.declared.stage.RewriteStage.TheVariants.{Placing, Ready, Visiting};
-ghost use Rattle.rewrite_full.specs.Moves.{CanCopy, HasFewer, HasInline, HasNoMore, IsFilled, IsUnshared, IsVisited};
+ghost use Rattle.rewrite_full.specs.Moves.{CanCopy, Falls, FitsPage, HasFewer, HasInline, HasNoMore, HoldsAt, IsAtOrPast, IsFilled, IsNextStop, IsUnshared, IsVisited, TakesUp, with_copy};
 ghost use Rattle.rewrite_full.specs.Stages.{DrawsOn, IsBegun, IsDrawing, LaysOn};
 ghost use Rattle.rewrite_full.specs.Steps.{IsDrawCause, IsEvent};
 
@@ -105,9 +105,10 @@ impl Rewrite {
     fn visited(&mut self, old: &Olds<'_>, stage: RewriteStage) -> Result<RewriteStage, AllocError>
         requires assigned { AreAssigned old.now.xacts.now old.now.rows.now.pages }
         requires can { CanCopy old.now.xacts.now old.now.snaps.now (table_of old.now.rows.now old.now.toast.now) }
-        requires holds { RewriteHolds old.now.xacts.now old.now.snaps.now (table_of old.now.rows.now old.now.toast.now) (at_stage self.old stage) }
-        ensures holds { IfOk result (λ next. RewriteHolds old.now.xacts.now old.now.snaps.now (table_of old.now.rows.now old.now.toast.now) (at_stage self.new next)) }
+        requires holds { HoldsAt old.now.xacts.now old.now.snaps.now old.now.rows.now old.now.toast.now self.old stage }
+        ensures holds { IfOk result (HoldsAt old.now.xacts.now old.now.snaps.now old.now.rows.now old.now.toast.now self.new) }
         ensures visited { IfOk result IsVisited }
+        ensures chosen { stage ≡ Visiting → IfOk result (λ next. IsNextStop old.now.xacts.now old.now.snaps.now old.now.rows.now.pages self.old.place self.new.place) }
         ensures left { IfOk result (HasNoMore (table_of old.now.rows.now old.now.toast.now) self.old stage self.new) }
         ensures rest { self.new ≡ record self.old { place = self.new.place } }
     {
@@ -129,8 +130,8 @@ impl Rewrite {
     fn filled(&self, old: &Olds<'_>, stage: RewriteStage) -> Result<RewriteStage, AllocError>
         requires sound { IsStore old.now.toast.now }
         requires visited { IsVisited stage }
-        requires holds { RewriteHolds old.now.xacts.now old.now.snaps.now (table_of old.now.rows.now old.now.toast.now) (at_stage self.now stage) }
-        ensures holds { IfOk result (λ next. RewriteHolds old.now.xacts.now old.now.snaps.now (table_of old.now.rows.now old.now.toast.now) (at_stage self.now next)) }
+        requires holds { HoldsAt old.now.xacts.now old.now.snaps.now old.now.rows.now old.now.toast.now self.now stage }
+        ensures holds { IfOk result (HoldsAt old.now.xacts.now old.now.snaps.now old.now.rows.now old.now.toast.now self.now) }
         ensures filled { IfOk result IsFilled }
         ensures left { IfOk result (HasNoMore (table_of old.now.rows.now old.now.toast.now) self.now stage self.now) }
     {
@@ -152,8 +153,8 @@ impl Rewrite {
         at: usize,
     ) -> (RowCopy, usize)
         requires own { toast_rel ≡ self.now.toast.rel.rel_id }
-        requires holds { RewriteHolds old.now.xacts.now old.now.snaps.now (table_of old.now.rows.now old.now.toast.now) (at_stage self.now (Placing copy columns.now at)) }
-        ensures holds { RewriteHolds old.now.xacts.now old.now.snaps.now (table_of old.now.rows.now old.now.toast.now) (at_stage self.now (Placing result.0 columns.now result.1)) }
+        requires holds { HoldsAt old.now.xacts.now old.now.snaps.now old.now.rows.now old.now.toast.now self.now (Placing copy columns.now at) }
+        ensures holds { HoldsAt old.now.xacts.now old.now.snaps.now old.now.rows.now old.now.toast.now self.now (Placing result.0 columns.now result.1) }
         ensures unshared { IsUnshared self.now.toast result.0 columns.now result.1 }
         ensures left { HasNoMore (table_of old.now.rows.now old.now.toast.now) self.now (Placing copy columns.now at) self.now (Placing result.0 columns.now result.1) }
     {
@@ -198,8 +199,8 @@ impl Rewrite {
     fn passed(&self, old: &Olds<'_>, toast_rel: u32, stage: RewriteStage) -> RewriteStage
         requires own { toast_rel ≡ self.now.toast.rel.rel_id }
         requires filled { IsFilled stage }
-        requires holds { RewriteHolds old.now.xacts.now old.now.snaps.now (table_of old.now.rows.now old.now.toast.now) (at_stage self.now stage) }
-        ensures holds { RewriteHolds old.now.xacts.now old.now.snaps.now (table_of old.now.rows.now old.now.toast.now) (at_stage self.now result) }
+        requires holds { HoldsAt old.now.xacts.now old.now.snaps.now old.now.rows.now old.now.toast.now self.now stage }
+        ensures holds { HoldsAt old.now.xacts.now old.now.snaps.now old.now.rows.now old.now.toast.now self.now result }
         ensures drawing { IsDrawing result }
         ensures left { HasNoMore (table_of old.now.rows.now old.now.toast.now) self.now stage self.now result }
     {
@@ -227,9 +228,10 @@ impl Rewrite {
     ) -> Result<RewriteStage, AllocError>
         requires assigned { AreAssigned xacts.now rows.now.pages }
         requires can { CanCopy xacts.now snaps.now (table_of rows.now toast.now) }
-        requires holds { RewriteHolds xacts.now snaps.now (table_of rows.now toast.now) (at_stage self.old stage) }
-        ensures holds { IfOk result (λ next. RewriteHolds xacts.now snaps.now (table_of rows.now toast.now) (at_stage self.new next)) }
+        requires holds { HoldsAt xacts.now snaps.now rows.now toast.now self.old stage }
+        ensures holds { IfOk result (HoldsAt xacts.now snaps.now rows.now toast.now self.new) }
         ensures drawing { IfOk result IsDrawing }
+        ensures chosen { stage ≡ Visiting → IfOk result (λ next. IsNextStop xacts.now snaps.now rows.now.pages self.old.place self.new.place) }
         ensures left { IfOk result (HasNoMore (table_of rows.now toast.now) self.old stage self.new) }
         ensures sound { IsStore toast.now }
         ensures rest { self.new ≡ record self.old { place = self.new.place } }
@@ -275,10 +277,10 @@ impl Rewrite {
         requires key { FitsSigned w64 copy.key }
         requires one_each { length copy.cells ≡ length rows.now.schema.storages }
         requires limits { All IsWithinLimits copy.cells }
-        requires size { IsRelation rows.now → HasColumns (length rows.now.schema.storages) → row_size rows.now.schema.storages copy.cells ≤ largest_tuple }
+        requires size { FitsPage rows.now copy }
         requires there { is_some (item_in rows.now.pages self.old.place) ≡ true }
         ensures stage { IfOk result (λ next. next ≡ Visiting) }
-        ensures put { OnOk result (self.new ≡ record self.old { rows = with_version self.old.rows (stamped_version copy.key copy.stamp (tuple rows.now.schema.storages (with_cells copy.key copy.cells))); place = next_place self.old.place }) }
+        ensures put { OnOk result (self.new ≡ with_copy rows.now.schema.storages self.old copy) }
         ensures cause { IfErr result (λ fault. fault ≡ Memory) }
     {
         if copy.cells.len() > rows.schema().storages().len() {
@@ -343,8 +345,9 @@ impl Rewrite {
         requires sound { IsStore toast.old }
         requires drawing { IsDrawing stage }
         requires stands { StandsAt (table_of rows.now toast.old) (at_stage self.old stage) stage }
-        ensures holds { (xacts : Xacts) (snaps : Snaps) → RewriteHolds xacts snaps (table_of rows.now toast.old) (at_stage self.old stage) → IfOk result (λ next. RewriteHolds xacts snaps (table_of rows.now toast.new) (at_stage self.new next)) }
+        ensures holds { (xacts : Xacts) (snaps : Snaps) → HoldsAt xacts snaps rows.now toast.old self.old stage → IfOk result (HoldsAt xacts snaps rows.now toast.new self.new) }
         ensures event { IfOk result (λ next. IsEvent toast.old ids.old (at_stage self.old stage) toast.new ids.new (at_stage self.new next)) }
+        ensures place { OnOk result (IsAtOrPast self.old.place self.new.place) }
         ensures falls { IfOk result (HasFewer (table_of rows.now toast.old) self.old stage (table_of rows.now toast.new) self.new) }
         ensures cause { IfErr result (IsDrawCause toast.old ids.old self.old) }
         ensures toast_stays { OnErr result (toast.new ≡ toast.old) }
@@ -402,8 +405,9 @@ impl Rewrite {
         // What the step answers, what holds after it, and what it has done.
         ensures answer { IfOk result (λ step. step ≡ answer_at self.new.stage) }
         ensures holds { OnOk result (RewriteHolds xacts.now snaps.now (table_of rows.now toast.new) self.new) }
+        ensures chosen { self.old.stage ≡ Visiting → OnOk result (TakesUp xacts.now snaps.now rows.now.pages self.old.place self.new.place) }
         ensures event { OnOk result (IsEvent toast.old ids.old self.old toast.new ids.new self.new) }
-        ensures falls { IfOk result (IsProgress (left (table_of rows.now toast.old) self.old) (left (table_of rows.now toast.new) self.new)) }
+        ensures falls { IfOk result (Falls (table_of rows.now toast.old) self.old (table_of rows.now toast.new) self.new) }
 
         // Why it is refused, and what stays then.
         ensures cause { IfErr result (IsDrawCause toast.old ids.old self.old) }

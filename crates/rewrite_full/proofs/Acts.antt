@@ -5,8 +5,9 @@ use Rattle.std.proofs.lemmas.List.{length-set}
 use Rattle.std.proofs.lemmas.Option.{get_or_from_slice_get, none-some, slice_get_cases, slice_get_within}
 use Rattle.slot_page.specs.declared.line.Tid.{Tid}
 use Rattle.tuple_layout.specs.Schemas.{HasColumns, TableSchema}
+use Rattle.tuple_layout.specs.declared.Storage.{Storage}
 use Rattle.tuple_layout.specs.declared.cell.Cell.{Cell}
-use Rattle.tuple_layout.specs.declared.cell.Cell.TheVariants.{Inline, Null}
+use Rattle.tuple_layout.specs.declared.cell.Cell.TheVariants.{Inline, Null, Out}
 use Rattle.tuple_layout.specs.Sizes.{Width, largest_tuple, size}
 use Rattle.tuple_layout.specs.Tuples.{row_size, tuple}
 use Rattle.xact_status.specs.Xacts.{Xacts}
@@ -25,13 +26,14 @@ use Rattle.rewrite_facts.specs.Holds.{IsPlacing, RewriteHolds, StandsAt}
 use Rattle.rewrite_facts.specs.Rewrites.{Rewriting, at_stage, column_at, with_cell}
 use Rattle.rewrite_facts.specs.declared.stage.RowCopy.{RowCopy}
 use Rattle.rewrite_facts.specs.declared.stage.RewriteStage.{RewriteStage}
-use Rattle.rewrite_facts.specs.declared.stage.RewriteStage.TheVariants.{Visiting, Placing, Laying}
+use Rattle.rewrite_facts.specs.declared.stage.RewriteStage.TheVariants.{Visiting, Filling, Reading, Placing, Laying, Ready}
 use Rattle.rewrite_facts.proofs.Columns.{all_out}
 use Rattle.rewrite_facts.proofs.Sizes.{chosen_fits}
 use Rattle.rewrite_facts.proofs.Steps.{changed, hold_laid, same_rel}
 use Rattle.rewrite_facts.proofs.Values.{hold_drawn, hold_over, hold_version}
 use Rattle.rewrite_full.specs.Stages.{DrawsOn, LaidOn, LaysOn, Goes, Ends, told_by}
-use Rattle.rewrite_full.specs.Steps.{IsEvent, ReadsOne, DrawsOne, LaysOne, PutsOne, EndsAll}
+use Rattle.rewrite_full.specs.Moves.{IsNextOf}
+use Rattle.rewrite_full.specs.Steps.{IsEvent, IsReadOf, KeepsRead, read_on, ReadsOne, DrawsOne, LaysOne, PutsOne, EndsAll}
 use Rattle.rewrite_full.proofs.Settles.{taken_restored}
 
 -- ---- what holds after each event
@@ -114,8 +116,10 @@ draws_at old ids r stage copy columns at column ids_after next d = record { id =
 
 -- ---- one event
 
-pub event_read : (old : Store) (ids : Pool) (r : Rewriting) (fetch after : Fetching) (told : FetchStep) (stage next : RewriteStage) (later : Store) → fetch.walk.session ≡ r.session → FetchSteps old fetch later after told → IsEvent old ids (at_stage r stage) later ids (at_stage r next)
-event_read old ids r fetch after told stage next later session steps = ReadsOne (record { walk = fetch.walk; session = session; store = steps.store; rows = refl; toast = refl }) refl
+pub event_read : (old : Store) (ids : Pool) (r : Rewriting) (copy : RowCopy) (at : ℕ) (fetch after : Fetching) (told : FetchStep) (stage next : RewriteStage) (later : Store) → stage ≡ Reading copy at fetch → fetch.walk.session ≡ r.session → FetchSteps old fetch later after told → next ≡ read_on copy at after told
+    → IsEvent old ids (at_stage r stage) later ids (at_stage r next)
+event_read old ids r copy at fetch after told stage next later is session steps next_is =
+    ReadsOne (record { copy = copy; at = at; fetch = fetch; next = after; told = told; due = subst (λ (s : RewriteStage). IsReadOf r.session s copy at fetch) (sym is) (refl, (refl, refl)); session = session; step = steps; stage = next_is; rows = refl; toast = refl }) refl
 
 pub event_draw : (old : Store) (ids ids_after : Pool) (r : Rewriting) (copy : RowCopy) (columns : List ℕ) (at column : ℕ) (stage next : RewriteStage) → DrawsOn old ids r copy columns at column ids_after next → IsEvent old ids (at_stage r stage) old ids_after (at_stage r next)
 event_draw old ids ids_after r copy columns at column stage next d = DrawsOne (record { id = d.id; free = d.free; drawn = d.drawn; rows = refl; toast = refl }) refl
@@ -131,9 +135,21 @@ pub laying_from : (columns : List ℕ) (at column : ℕ) → slice_get columns a
 laying_from columns at column here from = let is = get_or_from_slice_get columns at column 0 here in omega (arith, from, is)
 
 -- an event is one from wherever the rewrite was on its way to it
-pub event_moved : (old later : Store) (ids ids_after : Pool) (r after : Rewriting) (place : Tid) (stage : RewriteStage) → IsEvent old ids (record r { place = place; stage = stage }) later ids_after after → IsEvent old ids r later ids_after after
-event_moved old later ids ids_after r after place stage (ReadsOne is same) = ReadsOne (record { walk = is.walk; session = is.session; store = is.store; rows = is.rows; toast = is.toast }) same
-event_moved old later ids ids_after r after place stage (DrawsOne is same) = DrawsOne (record { id = is.id; free = is.free; drawn = is.drawn; rows = is.rows; toast = is.toast }) same
-event_moved old later ids ids_after r after place stage (LaysOne is same ids_same) = LaysOne (record { job = is.job; left = is.left; xid = is.xid; step = is.step; rows = is.rows }) same ids_same
-event_moved old later ids ids_after r after place stage (PutsOne is same ids_same) = PutsOne (record { version = is.version; rows = is.rows; toast = is.toast }) same ids_same
-event_moved old later ids ids_after r after place stage (EndsAll is same ids_same) = EndsAll (record { stage = is.stage; rows = is.rows; toast = is.toast }) same ids_same
+pub event_moved : (old later : Store) (ids ids_after : Pool) (r after : Rewriting) (place : Tid) (stage : RewriteStage) → KeepsRead r.session r.stage stage → IsEvent old ids (record r { place = place; stage = stage }) later ids_after after → IsEvent old ids r later ids_after after
+event_moved old later ids ids_after r after place stage keeps (ReadsOne is same) = ReadsOne (record { copy = is.copy; at = is.at; fetch = is.fetch; next = is.next; told = is.told; due = keeps is.copy is.at is.fetch is.due; session = is.session; step = is.step; stage = is.stage; rows = is.rows; toast = is.toast }) same
+event_moved old later ids ids_after r after place stage keeps (DrawsOne is same) = DrawsOne (record { id = is.id; free = is.free; drawn = is.drawn; rows = is.rows; toast = is.toast }) same
+event_moved old later ids ids_after r after place stage keeps (LaysOne is same ids_same) = LaysOne (record { job = is.job; left = is.left; xid = is.xid; step = is.step; rows = is.rows }) same ids_same
+event_moved old later ids ids_after r after place stage keeps (PutsOne is same ids_same) = PutsOne (record { version = is.version; rows = is.rows; toast = is.toast }) same ids_same
+event_moved old later ids ids_after r after place stage keeps (EndsAll is same ids_same) = EndsAll (record { stage = is.stage; rows = is.rows; toast = is.toast }) same ids_same
+
+-- the next read of a copy begins it
+pub keeps_filled : (schema : List Storage) (session : ℕ) (stage next : RewriteStage) (copy : RowCopy) → stage ≡ Filling copy → IsNextOf schema session copy next → KeepsRead session stage next
+keeps_filled schema session stage next copy stage_is is = subst (λ (s : RewriteStage). KeepsRead session s next) (sym stage_is) (by_next next is)
+  where
+    by_next : (s : RewriteStage) → IsNextOf schema session copy s → KeepsRead session (Filling copy) s
+    by_next Visiting off c at fetch due = absurd off
+    by_next (Filling same) off c at fetch due = absurd off
+    by_next (Laying same columns n pieces) off c at fetch due = absurd off
+    by_next Ready off c at fetch due = absurd off
+    by_next (Placing same columns n) is c at fetch due = absurd due
+    by_next (Reading same n under_way) is c at fetch due = record { pointer = is.1.0; out = subst (λ (m : ℕ). slice_get c.cells m ≡ Some (Out is.1.0)) due.1.0 (subst (λ (d : RowCopy). slice_get d.cells n ≡ Some (Out is.1.0)) (sym is.0 ∙ due.0) is.1.1); is = sym due.1.1 ∙ is.1.2 }

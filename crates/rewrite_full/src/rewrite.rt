@@ -22,7 +22,7 @@ ghost use Rattle.rewrite_facts.specs.Rewrites.{answer_at, at_stage, column_at, n
 ghost use Rattle.rewrite_facts.specs.declared.stage.RewriteStage.TheVariants.{Placing, Ready, Visiting};
 ghost use Rattle.rewrite_full.specs.Moves.{CanCopy, Falls, FitsPage, HasFewer, HasInline, HasNoMore, HoldsAt, IsAtOrPast, IsFilled, IsNextStop, IsUnshared, IsVisited, TakesUp, with_copy};
 ghost use Rattle.rewrite_full.specs.Stages.{DrawsOn, IsBegun, IsDrawing, LaysOn};
-ghost use Rattle.rewrite_full.specs.Steps.{IsDrawCause, IsEvent};
+ghost use Rattle.rewrite_full.specs.Steps.{IsDrawCause, IsEvent, KeepsRead};
 
 use crate::columns::{Both, column_at, id_at, next_shared, pointer_of, taken, with_pointer};
 use crate::copies::{copy_of, next_of};
@@ -108,6 +108,7 @@ impl Rewrite {
         requires holds { HoldsAt old.now.xacts.now old.now.snaps.now old.now.rows.now old.now.toast.now self.old stage }
         ensures holds { IfOk result (HoldsAt old.now.xacts.now old.now.snaps.now old.now.rows.now old.now.toast.now self.new) }
         ensures visited { IfOk result IsVisited }
+        ensures reads { IfOk result (KeepsRead self.old.session stage) }
         ensures chosen { stage ≡ Visiting → IfOk result (λ next. IsNextStop old.now.xacts.now old.now.snaps.now old.now.rows.now.pages self.old.place self.new.place) }
         ensures left { IfOk result (HasNoMore (table_of old.now.rows.now old.now.toast.now) self.old stage self.new) }
         ensures rest { self.new ≡ record self.old { place = self.new.place } }
@@ -133,6 +134,7 @@ impl Rewrite {
         requires holds { HoldsAt old.now.xacts.now old.now.snaps.now old.now.rows.now old.now.toast.now self.now stage }
         ensures holds { IfOk result (HoldsAt old.now.xacts.now old.now.snaps.now old.now.rows.now old.now.toast.now self.now) }
         ensures filled { IfOk result IsFilled }
+        ensures reads { IfOk result (KeepsRead self.now.session stage) }
         ensures left { IfOk result (HasNoMore (table_of old.now.rows.now old.now.toast.now) self.now stage self.now) }
     {
         match stage {
@@ -202,6 +204,7 @@ impl Rewrite {
         requires holds { HoldsAt old.now.xacts.now old.now.snaps.now old.now.rows.now old.now.toast.now self.now stage }
         ensures holds { HoldsAt old.now.xacts.now old.now.snaps.now old.now.rows.now old.now.toast.now self.now result }
         ensures drawing { IsDrawing result }
+        ensures reads { KeepsRead self.now.session stage result }
         ensures left { HasNoMore (table_of old.now.rows.now old.now.toast.now) self.now stage self.now result }
     {
         let RewriteStage::Placing { copy, columns, at } = stage else {
@@ -231,6 +234,7 @@ impl Rewrite {
         requires holds { HoldsAt xacts.now snaps.now rows.now toast.now self.old stage }
         ensures holds { IfOk result (HoldsAt xacts.now snaps.now rows.now toast.now self.new) }
         ensures drawing { IfOk result IsDrawing }
+        ensures reads { IfOk result (KeepsRead self.old.session stage) }
         ensures chosen { stage ≡ Visiting → IfOk result (λ next. IsNextStop xacts.now snaps.now rows.now.pages self.old.place self.new.place) }
         ensures left { IfOk result (HasNoMore (table_of rows.now toast.now) self.old stage self.new) }
         ensures sound { IsStore toast.now }

@@ -3,14 +3,15 @@ use Rattle.std.specs.Prelude.{◌≡◌, ℕ, Bool, true, false, List, [], ◌++
 use Rattle.std.specs.Io.KnownBytes.{Appends}
 use Rattle.toast_io.specs.Faults.{HasRisen, NeverFalls}
 use Rattle.toast_io.specs.Sink.{AppendsPart}
+use Rattle.toast_io.specs.declared.sink.Sink as sink
 
 -- what a sink tells: the bytes that were written to it, and how often a write has failed
 pub record SinkTold : Type 0 where
   pub written : Option (List ℕ)
   pub faults : ℕ
 
-abbrev pub told : Option (List ℕ) → ℕ → SinkTold
-told written faults = record { written = written; faults = faults }
+abbrev pub told : {K : Type 0} → sink.Ghosts K → K → SinkTold
+told kind k = record { written = kind.written k; faults = kind.faults k }
 
 -- a printer: the bytes that it holds for the sink, and whether a write has failed
 pub record PrinterState : Type 0 where

@@ -16,7 +16,7 @@ const PART: usize = 64;
 impl Printer {
     /// Prints the line of a session's command with this number, from 1, and the reply to it.
     pub fn print_reply<K: Sink>(&mut self, sink: &mut K, session: u16, number: u32, reply: &Reply)
-        ensures { Prints (told (K.written sink.old) (K.faults sink.old)) (told (K.written sink.new) (K.faults sink.new)) self.old self.new (reply_line session number reply.now) }
+        ensures { Prints (told K.Sink sink.old) (told K.Sink sink.new) self.old self.new (reply_line session number reply.now) }
     {
         self.put_numbered(sink, "s", u32::from(session));
         self.put_numbered(sink, ".", number);
@@ -29,7 +29,7 @@ impl Printer {
     #[tactic(auto, using(crate::proofs::Carries::prints_on))]
     fn put_numbered<K: Sink>(&mut self, sink: &mut K, words: &str, number: u32)
         requires { length words.now ≤ 128 }
-        ensures { Prints (told (K.written sink.old) (K.faults sink.old)) (told (K.written sink.new) (K.faults sink.new)) self.old self.new (words.now ++ decimal number) }
+        ensures { Prints (told K.Sink sink.old) (told K.Sink sink.new) self.old self.new (words.now ++ decimal number) }
     {
         let mut digits = Buffer::new();
         self.put(sink, words.as_bytes());
@@ -39,7 +39,7 @@ impl Printer {
     // Prints a row's key.
     #[tactic(auto, using(crate::proofs::Carries::prints_on))]
     fn put_key<K: Sink>(&mut self, sink: &mut K, key: &i64)
-        ensures { Prints (told (K.written sink.old) (K.faults sink.old)) (told (K.written sink.new) (K.faults sink.new)) self.old self.new (codes "row " ++ signed_decimal key.now) }
+        ensures { Prints (told K.Sink sink.old) (told K.Sink sink.new) self.old self.new (codes "row " ++ signed_decimal key.now) }
     {
         let mut digits = Buffer::new();
         self.put(sink, b"row ");
@@ -49,7 +49,7 @@ impl Printer {
     // Prints the digits of at most 64 bytes.
     fn put_part<K: Sink>(&mut self, sink: &mut K, part: &[u8])
         requires { length part.now ≤ 64 }
-        ensures { Prints (told (K.written sink.old) (K.faults sink.old)) (told (K.written sink.new) (K.faults sink.new)) self.old self.new (encode_lower part.now) }
+        ensures { Prints (told K.Sink sink.old) (told K.Sink sink.new) self.old self.new (encode_lower part.now) }
     {
         let mut room = [0; 2 * PART];
         let digits = &mut room[..2 * part.len()];
@@ -59,7 +59,7 @@ impl Printer {
 
     // Prints the digits of bytes.
     fn put_digits<K: Sink>(&mut self, sink: &mut K, bytes: &[u8])
-        ensures { Prints (told (K.written sink.old) (K.faults sink.old)) (told (K.written sink.new) (K.faults sink.new)) self.old self.new (encode_lower bytes.now) }
+        ensures { Prints (told K.Sink sink.old) (told K.Sink sink.new) self.old self.new (encode_lower bytes.now) }
     {
         let mut rest = bytes;
         while !rest.is_empty() {
@@ -72,7 +72,7 @@ impl Printer {
     // Prints a byte string.
     #[tactic(auto, using(crate::proofs::Carries::prints_on))]
     fn put_bytes<K: Sink>(&mut self, sink: &mut K, bytes: &Bytes)
-        ensures { Prints (told (K.written sink.old) (K.faults sink.old)) (told (K.written sink.new) (K.faults sink.new)) self.old self.new (value_text (Some bytes.now)) }
+        ensures { Prints (told K.Sink sink.old) (told K.Sink sink.new) self.old self.new (value_text (Some bytes.now)) }
     {
         self.put(sink, b"x");
         self.put_digits(sink, bytes.as_slice());
@@ -80,7 +80,7 @@ impl Printer {
 
     // Prints a value, or that it is null.
     fn put_value<K: Sink>(&mut self, sink: &mut K, value: &Option<Bytes>)
-        ensures { Prints (told (K.written sink.old) (K.faults sink.old)) (told (K.written sink.new) (K.faults sink.new)) self.old self.new (value_text value.now) }
+        ensures { Prints (told K.Sink sink.old) (told K.Sink sink.new) self.old self.new (value_text value.now) }
     {
         match value {
             Some(bytes) => self.put_bytes(sink, bytes),
@@ -91,7 +91,7 @@ impl Printer {
     // Prints a value behind a space.
     #[tactic(auto, using(crate::proofs::Carries::prints_on))]
     fn put_spaced<K: Sink>(&mut self, sink: &mut K, value: &Option<Bytes>)
-        ensures { Prints (told (K.written sink.old) (K.faults sink.old)) (told (K.written sink.new) (K.faults sink.new)) self.old self.new (codes " " ++ value_text value.now) }
+        ensures { Prints (told K.Sink sink.old) (told K.Sink sink.new) self.old self.new (codes " " ++ value_text value.now) }
     {
         self.put(sink, b" ");
         self.put_value(sink, value);
@@ -100,7 +100,7 @@ impl Printer {
     // Prints a row's values, each behind a space.
     #[tactic(auto, using(crate::proofs::Carries::prints_on))]
     fn put_values<K: Sink>(&mut self, sink: &mut K, values: &[Option<Bytes>])
-        ensures { Prints (told (K.written sink.old) (K.faults sink.old)) (told (K.written sink.new) (K.faults sink.new)) self.old self.new (values_text values.now) }
+        ensures { Prints (told K.Sink sink.old) (told K.Sink sink.new) self.old self.new (values_text values.now) }
     {
         for value in values {
             self.put_spaced(sink, value);
@@ -110,7 +110,7 @@ impl Printer {
     // Prints a row.
     #[tactic(auto, using(crate::proofs::Carries::prints_on))]
     fn put_row<K: Sink>(&mut self, sink: &mut K, key: &i64, values: &[Option<Bytes>])
-        ensures { Prints (told (K.written sink.old) (K.faults sink.old)) (told (K.written sink.new) (K.faults sink.new)) self.old self.new (codes "row " ++ signed_decimal key.now ++ values_text values.now) }
+        ensures { Prints (told K.Sink sink.old) (told K.Sink sink.new) self.old self.new (reply_text (Reply.Row key.now values.now)) }
     {
         self.put_key(sink, key);
         self.put_values(sink, values);
@@ -119,7 +119,7 @@ impl Printer {
     // Prints bytes that were read.
     #[tactic(auto, using(crate::proofs::Carries::prints_on))]
     fn put_read<K: Sink>(&mut self, sink: &mut K, bytes: &Bytes)
-        ensures { Prints (told (K.written sink.old) (K.faults sink.old)) (told (K.written sink.new) (K.faults sink.new)) self.old self.new (codes "bytes " ++ value_text (Some bytes.now)) }
+        ensures { Prints (told K.Sink sink.old) (told K.Sink sink.new) self.old self.new (codes "bytes " ++ value_text (Some bytes.now)) }
     {
         self.put(sink, b"bytes ");
         self.put_bytes(sink, bytes);
@@ -127,7 +127,7 @@ impl Printer {
 
     // Prints a reply's words.
     fn put_reply<K: Sink>(&mut self, sink: &mut K, reply: &Reply)
-        ensures { Prints (told (K.written sink.old) (K.faults sink.old)) (told (K.written sink.new) (K.faults sink.new)) self.old self.new (reply_text reply.now) }
+        ensures { Prints (told K.Sink sink.old) (told K.Sink sink.new) self.old self.new (reply_text reply.now) }
     {
         match reply {
             Reply::Okay => self.put(sink, b"ok"),

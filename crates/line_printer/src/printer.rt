@@ -50,8 +50,8 @@ impl Printer {
 
     /// Writes what is held, and answers whether all that was printed is written.
     pub fn finish<K: Sink>(self, sink: &mut K) -> Result<(), Failed>
-        ensures ok { OnOk result (WritesAll (told (K.written sink.old) (K.faults sink.old)) (told (K.written sink.new) (K.faults sink.new)) self) }
-        ensures err { OnErr result (WritesLess (told (K.written sink.old) (K.faults sink.old)) (told (K.written sink.new) (K.faults sink.new)) self) }
+        ensures ok { OnOk result (WritesAll (told K.Sink sink.old) (told K.Sink sink.new) self) }
+        ensures err { OnErr result (WritesLess (told K.Sink sink.old) (told K.Sink sink.new) self) }
         ensures count { NeverFalls (K.faults sink.old) (K.faults sink.new) }
     {
         if self.failed {
@@ -64,7 +64,7 @@ impl Printer {
     /// Prints a piece of at most 128 bytes.
     pub(crate) fn put<K: Sink>(&mut self, sink: &mut K, piece: &[u8])
         requires { length piece.now ≤ 128 }
-        ensures { Prints (told (K.written sink.old) (K.faults sink.old)) (told (K.written sink.new) (K.faults sink.new)) self.old self.new piece.now }
+        ensures { Prints (told K.Sink sink.old) (told K.Sink sink.new) self.old self.new piece.now }
     {
         self.make_room(sink, piece.len());
         self.hold(piece);
@@ -73,7 +73,7 @@ impl Printer {
     // Makes room for so many bytes.
     fn make_room<K: Sink>(&mut self, sink: &mut K, count: usize)
         requires { count ≤ 128 }
-        ensures prints { Prints (told (K.written sink.old) (K.faults sink.old)) (told (K.written sink.new) (K.faults sink.new)) self.old self.new [] }
+        ensures prints { Prints (told K.Sink sink.old) (told K.Sink sink.new) self.old self.new [] }
         ensures room { self.new.failed ≡ false → length self.new.held + count ≤ 65536 }
     {
         if self.held.len() + count <= ROOM {
@@ -84,7 +84,7 @@ impl Printer {
 
     // Writes what is held, unless a write has failed.
     fn write_held<K: Sink>(&mut self, sink: &mut K)
-        ensures prints { Prints (told (K.written sink.old) (K.faults sink.old)) (told (K.written sink.new) (K.faults sink.new)) self.old self.new [] }
+        ensures prints { Prints (told K.Sink sink.old) (told K.Sink sink.new) self.old self.new [] }
         ensures held { self.new.failed ≡ false → self.new.held ≡ [] }
     {
         if self.failed {

@@ -1,5 +1,5 @@
 -- How the columns of a row are made in two passes; what the private functions' clauses cite.
-use Rattle.std.specs.Prelude.{ℕ, Bool, false, ◌==◌, if◌then◌else◌, List, map, Option, None}
+use Rattle.std.specs.Prelude.{◌≡◌, ℕ, Bool, false, ◌==◌, if◌then◌else◌, List, map, Option, None}
 use Rattle.std.specs.List.{list_any}
 use Rattle.tuple_layout.specs.declared.cell.Cell.{Cell}
 use Rattle.tuple_layout.specs.declared.cell.Cell.TheVariants as cells
@@ -16,6 +16,10 @@ points_to value_id cell = false
 abbrev pub pointed : Found → ℕ → Cell → Option GatheredValue
 pointed found table (cells.Out p) = found table p.value_id
 pointed found table cell = None
+
+-- the value that a cell points to is taken out of its table's, and each other one stays
+abbrev pub IsTaken : Found → Found → ℕ → Cell → Type 0
+IsTaken old new table cell = (value_id : ℕ) → new table value_id ≡ (if points_to value_id cell then None else old table value_id)
 
 -- what is sent of a cell before values are moved: of those that cells point to, only the ones that an earlier cell points to as well
 abbrev pub planned_of : Found → ℕ → List Cell → Cell → Column

@@ -1,16 +1,32 @@
 -- What one step of decoding makes of what is kept; what the private functions' clauses cite.
-use Rattle.std.specs.Prelude.{◌≡◌, ℕ, ◌+◌, nat_eq, if◌then◌else◌, List, [], ◌∷◌, ◌++◌, Option, Some, None, Result, Ok, Err}
+use Rattle.std.specs.Prelude.{◌≡◌, ℕ, ℤ, ◌+◌, cond, nat_eq, if◌then◌else◌, List, [], ◌∷◌, ◌++◌, Option, Some, None, Result, Ok, Err}
+use Rattle.std.specs.Ordering.{int_eq}
 use Rattle.change_log.specs.declared.entry.LogEntry.{LogEntry}
 use Rattle.stream_wire.specs.declared.message.Message.{Message}
+use Rattle.stream_wire.specs.declared.message.Message.TheVariants as messages
+use Rattle.stream_wire.specs.declared.message.Sent.{Sent as Column}
 use Rattle.decode_stream.specs.declared.fault.DecodeFault.{DecodeFault}
 use Rattle.decode_stream.specs.declared.fault.DecodeFault.TheVariants.{Memory}
+use Rattle.decode_stream.specs.declared.gathered.ValueName.{ValueName}
 use Rattle.decode_stream.specs.Decoding.{TransactionState, GatheredValue, unless_none, first_fault, commits, numbered}
-use Rattle.decode_stream.specs.States.{OpenState, OpenList, DecoderState, IsOpen, Decodes, open_at}
+use Rattle.decode_stream.specs.States.{OpenState, OpenList, DecoderState, IsOpen, Decodes, open_at, same_name}
 
 -- a value with one chunk more
 abbrev pub more_of : Option GatheredValue → List ℕ → GatheredValue
 more_of None bytes = record { chunks = 1; bytes = bytes }
 more_of (Some value) bytes = record { chunks = value.chunks + 1; bytes = value.bytes ++ bytes }
+
+-- a value is put at a name, and each other name has what it had
+abbrev pub IsPut : (ValueName → Option GatheredValue) → (ValueName → Option GatheredValue) → ValueName → GatheredValue → Type 0
+IsPut old new name value = (q : ValueName) → new q ≡ cond (same_name name q) (Some value) (old q)
+
+-- the value at a name has one chunk more, and each other name has what it had
+abbrev pub IsGathered : (ValueName → Option GatheredValue) → (ValueName → Option GatheredValue) → ValueName → List ℕ → Type 0
+IsGathered old new name bytes = IsPut old new name (more_of (old name) bytes)
+
+-- the message of an update, which tells both keys where they differ
+abbrev pub update_message : ℕ → ℤ → ℤ → List Column → Message
+update_message table from to columns = if int_eq from to then messages.Update table from columns else messages.Move table from to columns
 
 -- what ending a transaction gives: its changes, if it has any
 abbrev pub ended : Option OpenState → Option (List Message)
@@ -42,3 +58,7 @@ pub record IsSent (state : DecoderState) (transactions : List TransactionState) 
   pub decodes : Decodes state log
   pub sound : first_fault log ≡ None
   pub sent : transactions ≡ numbered 1 (commits log)
+
+-- whatever log was fed, and its transactions sent, an entry goes the same way behind it
+abbrev pub Sends : DecoderState → List TransactionState → DecoderState → List TransactionState → LogEntry → Type 0
+Sends old sent new sent' e = (log : List LogEntry) → IsSent old sent log → IsSent new sent' (log ++ e ∷ [])

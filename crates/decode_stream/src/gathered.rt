@@ -1,11 +1,10 @@
 //! Values that are gathered from their chunks.
 
-ghost use Rattle.std.specs.Prelude.{◌≡◌, ◌+◌, ◌<◌, ◌^◌, cond, length, IfErr, IfOk, OnErr, OnOk, Some, None};
+ghost use Rattle.std.specs.Prelude.{◌≡◌, ◌+◌, ◌<◌, ◌^◌, length, IfOk, OnErr, OnOk, Some, None};
 ghost use Rattle.indexmap.specs.IndexMap.{get};
 ghost use Rattle.decode_stream.specs.Decoding.{order_fault};
-ghost use Rattle.decode_stream.specs.declared.gathered.ValueName.{ValueName};
 ghost use Rattle.decode_stream.specs.States.{HasRoom, same_name};
-ghost use Rattle.decode_stream.specs.Steps.{Tells, more_of};
+ghost use Rattle.decode_stream.specs.Steps.{IsGathered, IsPut, Tells, more_of};
 
 use crate::fault::DecodeFault;
 use indexmap::IndexMap;
@@ -96,7 +95,7 @@ impl Gathered {
 
 /// Puts a value at a name. Where there is no memory, all is as before.
 fn put(values: &mut Values, name: ValueName, value: Gathered) -> Result<(), AllocError>
-    ensures ok { OnOk result ((q : ValueName) → get same_name values.new q ≡ cond (same_name name q) (Some value) (get same_name values.old q)) }
+    ensures ok { OnOk result (IsPut (get same_name values.old) (get same_name values.new) name value) }
     ensures err { OnErr result (values.new.entries ≡ values.old.entries) }
 {
     let _ = values.insert(name, value)?;
@@ -113,7 +112,7 @@ pub(crate) fn gather(
     bytes: &[u8],
 ) -> Result<(), DecodeFault>
     requires { HasRoom (get same_name values.old name) bytes.now }
-    ensures ok { OnOk result ((q : ValueName) → get same_name values.new q ≡ cond (same_name name q) (Some (more_of (get same_name values.old name) bytes.now)) (get same_name values.old q)) }
+    ensures ok { OnOk result (IsGathered (get same_name values.old) (get same_name values.new) name bytes.now) }
     ensures fault { Tells (order_fault (get same_name values.old name) seq) result }
     ensures err { OnErr result (values.new.entries ≡ values.old.entries) }
 {

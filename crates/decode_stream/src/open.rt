@@ -1,13 +1,12 @@
 //! A transaction that has not ended.
 
-ghost use Rattle.std.specs.Prelude.{◌≡◌, ◌<◌, ◌≤◌, ◌+◌, ◌++◌, ◌∷◌, [], List, true, false, if◌then◌else◌, IfOk, OnErr, OnOk, Some, vec_capacity, vec_len};
+ghost use Rattle.std.specs.Prelude.{◌≡◌, ◌<◌, ◌++◌, ◌∷◌, [], List, true, false, IfOk, OnErr, OnOk, Some, vec_capacity, vec_len};
 ghost use Rattle.std.specs.List.{All};
-ghost use Rattle.std.specs.Ordering.{int_eq};
 ghost use Rattle.stream_wire.specs.Spelling.{IsInRange};
 ghost use Rattle.change_log.specs.declared.entry.LogEntry.{LogEntry};
 ghost use Rattle.decode_stream.specs.Decoding.{change_of, fault_of, is_change, is_end};
 ghost use Rattle.decode_stream.specs.States.{Fits, IsOpen, found_in};
-ghost use Rattle.decode_stream.specs.Steps.{Tells};
+ghost use Rattle.decode_stream.specs.Steps.{Tells, update_message};
 
 use crate::fault::DecodeFault;
 use crate::gathered::{ValueName, Values, gather};
@@ -51,7 +50,7 @@ fn insert_of(table: u16, key: &i64, columns: SentList) -> Message
 }
 
 fn update_of(table: u16, from: &i64, to: &i64, columns: SentList) -> Message
-    ensures { result ≡ (if int_eq from.now to.now then Message.Update table from.now columns else Message.Move table from.now to.now columns) }
+    ensures { result ≡ update_message table from.now to.now columns }
 {
     if *from == *to {
         Message::Update {

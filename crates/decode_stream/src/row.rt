@@ -1,13 +1,13 @@
 //! What is sent of a row.
 
-ghost use Rattle.std.specs.Prelude.{◌≡◌, ℕ, if◌then◌else◌, IfOk, OnErr, None, Some, [], map, filter_map};
+ghost use Rattle.std.specs.Prelude.{◌≡◌, IfOk, OnErr, Some, [], map, filter_map};
 ghost use Rattle.std.specs.List.{list_any};
 ghost use Rattle.stream_wire.specs.Spelling.{AreColumns};
 ghost use Rattle.decode_stream.specs.Decoding.{cell_fault, column_of, first, sent_value, size_fault};
 ghost use Rattle.indexmap.specs.IndexMap.{get};
 ghost use Rattle.decode_stream.specs.States.{AreCells, found_in, same_name, value_name};
 ghost use Rattle.decode_stream.specs.Steps.{Tells};
-ghost use Rattle.decode_stream.specs.Rows.{planned, planned_of, pointed, points_to};
+ghost use Rattle.decode_stream.specs.Rows.{IsTaken, planned, planned_of, pointed, points_to};
 
 use crate::fault::DecodeFault;
 use crate::gathered::{Gathered, ValueName, Values};
@@ -119,7 +119,7 @@ fn plan(alloc: Global, values: &Values, table: u16, cells: &[Cell]) -> Result<Se
 /// Takes what was gathered of the value that a cell points to.
 fn taken(values: &mut Values, table: u16, cell: &Cell) -> Option<Gathered>
     ensures value { result ≡ pointed (found_in values.old.entries) table cell.now }
-    ensures left { (value_id : ℕ) → found_in values.new.entries table value_id ≡ (if points_to value_id cell.now then None else found_in values.old.entries table value_id) }
+    ensures left { IsTaken (found_in values.old.entries) (found_in values.new.entries) table cell.now }
 {
     match cell {
         Cell::Out(p) => values.swap_remove(&name_of(table, p)),

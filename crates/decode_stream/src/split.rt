@@ -1,11 +1,8 @@
 //! A whole log, decoded by several workers.
 
-ghost use Rattle.std.specs.Prelude.{◌≡◌, ◌≤◌, ◌<◌, ◌+◌, ◌^◌, ◌++◌, ◌∷◌, [], ℕ, List, false, length, nat_eq, slice_index_or, vec_len, IfOk, IfSome, None, OnOk};
-ghost use Rattle.change_log.specs.declared.entry.LogEntry.{LogEntry};
-ghost use Rattle.decode_stream.specs.Decoding.{commits, first_fault, numbered};
+ghost use Rattle.std.specs.Prelude.{◌≡◌, ◌≤◌, ◌<◌, ◌+◌, ◌^◌, length, slice_index_or, vec_len, IfOk, IfSome, OnOk};
 ghost use Rattle.decode_stream.specs.States.{IsDecodable, IsDecoded};
-ghost use Rattle.decode_stream.specs.Steps.{Tells};
-ghost use Rattle.decode_stream.specs.Parts.{AreGiven, ArePartsFrom, IsPart, IsTold, ToldList, told_at};
+ghost use Rattle.decode_stream.specs.Parts.{AreGiven, ArePartsFrom, ArePartsIfOk, AreWhole, SendsTold, StayBut, TellsTold, ToldList, told_at};
 
 use crate::fault::DecodeFault;
 use crate::transaction::{Transaction, TransactionList};
@@ -20,7 +17,7 @@ use std::thread::Threads;
 fn take_told(parts: &mut Vec<Part>, worker: usize, n: usize) -> Option<Told>
     requires { worker < vec_len parts.old }
     ensures told { (d : ToldList) → result ≡ told_at (slice_index_or parts.old.items worker d) n }
-    ensures others { (w : ℕ) (d : ToldList) (q : ℕ) → nat_eq n q ≡ false → told_at (slice_index_or parts.new.items w d) q ≡ told_at (slice_index_or parts.old.items w d) q }
+    ensures others { StayBut n parts.old.items parts.new.items }
     ensures len { vec_len parts.new ≡ vec_len parts.old }
 {
     parts[worker].take(n)
@@ -30,8 +27,8 @@ fn take_told(parts: &mut Vec<Part>, worker: usize, n: usize) -> Option<Told>
 fn send_told(sent: &mut TransactionList, told: Option<Told>) -> Result<(), DecodeFault>
     requires room { length sent.old + 1 < 2 ^ 32 }
     requires given { IfSome told (λ t. IfOk t AreGiven) }
-    ensures ok { OnOk result ((log : List LogEntry) (e : LogEntry) → IsTold told (log, e) → first_fault log ≡ None → sent.old ≡ numbered 1 (commits log) → sent.new ≡ numbered 1 (commits (log ++ e ∷ []))) }
-    ensures fault { (log : List LogEntry) (e : LogEntry) → IsTold told (log, e) → first_fault log ≡ None → Tells (first_fault (log ++ e ∷ [])) result }
+    ensures ok { OnOk result (SendsTold told sent.old sent.new) }
+    ensures fault { TellsTold told result }
 {
     match told {
         Some(Ok(changes)) => {
@@ -73,7 +70,7 @@ fn merge(
 /// The parts of all workers, if none wanted memory.
 fn whole_parts(alloc: Global, parts: Vec<Result<Part, AllocError>>) -> Result<Vec<Part>, AllocError>
     ensures len { IfOk result (λ all. vec_len all ≡ vec_len parts) }
-    ensures each { IfOk result (λ all. (w : ℕ) (d : _) (f : ToldList) → w < vec_len parts → slice_index_or parts.items w d ≡ Ok (slice_index_or all.items w f)) }
+    ensures each { IfOk result (λ all. AreWhole (vec_len parts) parts.items all.items) }
 {
     let mut all = Vec::with_capacity(alloc, parts.len())?;
     for part in parts {
@@ -92,7 +89,7 @@ fn parts_of<R: Threads + Sync>(
     requires workers { 1 ≤ workers }
     requires log { IsDecodable log.now.entries }
     ensures len { IfOk result (λ parts. vec_len parts ≡ workers) }
-    ensures each { IfOk result (λ parts. (w : ℕ) (d : _) → w < workers → IfOk (slice_index_or parts.items w d) (λ part. IsPart log.now.entries workers w part)) }
+    ensures each { IfOk result (λ parts. ArePartsIfOk log.now.entries workers parts.items) }
 {
     thread::map_indices(
         rt,

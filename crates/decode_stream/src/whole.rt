@@ -1,11 +1,11 @@
 //! A whole log, decoded in order.
 
-ghost use Rattle.std.specs.Prelude.{◌≡◌, ◌+◌, ◌<◌, ◌^◌, ◌++◌, ◌∷◌, [], List, OnOk};
+ghost use Rattle.std.specs.Prelude.{◌+◌, ◌<◌, ◌^◌, ◌++◌, ◌∷◌, [], List, OnOk};
 ghost use Rattle.change_log.specs.declared.entry.LogEntry.{LogEntry};
 ghost use Rattle.decode_stream.specs.Decoding.{first_fault};
 ghost use Rattle.decode_stream.specs.Growing.{FitsFed};
 ghost use Rattle.decode_stream.specs.States.{Decodes, IsDecodable, IsDecoded};
-ghost use Rattle.decode_stream.specs.Steps.{IsSent, Tells};
+ghost use Rattle.decode_stream.specs.Steps.{Sends, Tells};
 
 use crate::decoder::Decoder;
 use crate::fault::DecodeFault;
@@ -22,7 +22,7 @@ fn send_next(
 ) -> Result<(), DecodeFault>
     requires given { decoder.old.given + 1 < 2 ^ 32 }
     requires fits { FitsFed decoder.old e.now }
-    ensures ok { OnOk result ((log : List LogEntry) → IsSent decoder.old sent.old log → IsSent decoder.new sent.new (log ++ e.now ∷ [])) }
+    ensures ok { OnOk result (Sends decoder.old sent.old decoder.new sent.new e.now) }
     ensures fault { (log : List LogEntry) → Decodes decoder.old log → Tells (first_fault (log ++ e.now ∷ [])) result }
 {
     if let Some(transaction) = decoder.feed(e)? {

@@ -1,10 +1,10 @@
 //! What one of several workers decodes of a log: the transactions of its xids.
 
-ghost use Rattle.std.specs.Prelude.{◌≡◌, ◌≤◌, ◌<◌, ◌+◌, ◌++◌, ◌∷◌, [], ℕ, List, true, false, cond, nat_eq, slice_get, IfOk, IsSome, MatchBool, None, OnOk, Some};
+ghost use Rattle.std.specs.Prelude.{◌≡◌, ◌≤◌, ◌<◌, [], ℕ, List, true, false, cond, nat_eq, IfOk, None, OnOk, Some};
 ghost use Rattle.change_log.specs.declared.entry.LogEntry.{LogEntry};
-ghost use Rattle.decode_stream.specs.Decoding.{fault_at, xid_of};
+ghost use Rattle.decode_stream.specs.Decoding.{xid_of};
 ghost use Rattle.decode_stream.specs.States.{AreOpen, Fits, IsDecodable, found_of, open_at};
-ghost use Rattle.decode_stream.specs.Parts.{IsPart, IsTold, Works, is_own, told_at, worker_at};
+ghost use Rattle.decode_stream.specs.Parts.{IsFaulty, IsPart, IsTold, TakesIn, Visits, is_own, told_at, worker_at};
 
 use crate::fault::DecodeFault;
 use crate::table::{Table, xid_of_entry};
@@ -72,8 +72,8 @@ fn take_own(table: &mut Table, part: &mut Part, n: usize, e: &LogEntry) -> Resul
     requires free { told_at part.old n ≡ None }
     ensures told { OnOk result ((log : List LogEntry) → AreOpen table.old log → IsTold (told_at part.new n) (log, e.now)) }
     ensures others { OnOk result ((q : ℕ) → nat_eq n q ≡ false → told_at part.new q ≡ told_at part.old q) }
-    ensures goes { IfOk result (λ goes. goes ≡ true → (log : List LogEntry) → AreOpen table.old log → AreOpen table.new (log ++ e.now ∷ [])) }
-    ensures stops { IfOk result (λ goes. goes ≡ false → (log : List LogEntry) → AreOpen table.old log → IsSome (fault_at (log, e.now))) }
+    ensures goes { IfOk result (λ goes. goes ≡ true → TakesIn table.old table.new e.now) }
+    ensures stops { IfOk result (λ goes. goes ≡ false → IsFaulty table.old e.now) }
 {
     match table.take(e) {
         Ok(None) => Ok(true),
@@ -100,7 +100,7 @@ fn visit(
     requires workers { 1 ≤ share.0 }
     requires fits { is_own share.0 share.1 e.now ≡ true → Fits (found_of (open_at table.old (xid_of e.now))) e.now }
     requires free { told_at part.old n ≡ None }
-    ensures { IfOk result (λ goes. (log : List LogEntry) → slice_get log n ≡ Some e.now → Works log share.0 share.1 n table.old part.old → MatchBool goes (Works log share.0 share.1 (n + 1) table.new part.new) (IsPart log share.0 share.1 part.new)) }
+    ensures { IfOk result (Visits share n e.now table.old part.old table.new part.new) }
 {
     let (workers, worker) = share;
     if worker_of(e, workers) != worker {

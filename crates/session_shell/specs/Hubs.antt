@@ -1,5 +1,5 @@
 -- What a hub holds, and what is true of every hub: the fact of its type.
-use Rattle.std.specs.Prelude.{◌≡◌, ℕ, ◌-◌, ◌*◌, ◌≤◌, Bool, true, false, ◌&&◌, List, [], Option, Some, None, length, map as mapped, slice_get, slice_index_or, ◌==◌, if◌then◌else◌}
+use Rattle.std.specs.Prelude.{◌≡◌, ℕ, ◌-◌, ◌*◌, ◌≤◌, Bool, true, false, ◌&&◌, List, [], Option, Some, None, length, map as mapped, slice_get, slice_index_or, slice_set, ◌==◌, if◌then◌else◌}
 use Rattle.std.specs.List.{sum_by}
 use Rattle.std.specs.Option.{option_map, option_map_or, unwrap_or}
 use Rattle.command_set.specs.Plain.{nth}
@@ -35,6 +35,13 @@ pub record HubState : Type 0 where
   pub core : CoreState
   pub journal : List JournalEntry
   pub kept : List KeptLine
+
+abbrev pub hub_of : Script → CoreState → List JournalEntry → List KeptLine → HubState
+hub_of script core journal kept = record { script = script; core = core; journal = journal; kept = kept }
+
+-- whether a session's command is past its moment
+abbrev pub is_past : CoreState → ℕ → Bool
+is_past core s = is_past_moment (seat_of core s).job
 
 -- a session's number is one of the script's
 pub record IsSessionOf (script : Script) (s : ℕ) : Type 0 where
@@ -203,3 +210,7 @@ pub record LastIsRun (hub : HubState) (s : ℕ) : Type 0 where
 -- what is true of every hub: the core stands for the state at the journal's end, the journal is legal, and the kept lines are the printed ones
 abbrev pub IsHub : HubState → List Progress → Type 0
 IsHub hub progress = Keeps hub.script hub.core hub.journal hub.kept progress (run_of hub.script hub.journal)
+
+-- how far the sessions are once one has begun its command of this number, whose entry and line come behind these
+abbrev pub with_begun : List Progress → ℕ → ℕ → List JournalEntry → List KeptLine → List Progress
+with_begun progress s number journal kept = slice_set progress (s - 1) (record { begun = number; entry = length journal; line = length kept })

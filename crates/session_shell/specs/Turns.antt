@@ -1,5 +1,5 @@
 -- Turns of a hub: what each adds to the journal, and where it leaves its session.
-use Rattle.std.specs.Prelude.{◌≡◌, ◌≢◌, ◌⊎◌, ◌<◌, ℕ, ◌+◌, ◌-◌, Bool, true, false, List, [], ◌∷◌, ◌++◌, Option, Some, None, length, slice_set, slice_index_or, if◌then◌else◌}
+use Rattle.std.specs.Prelude.{◌≡◌, ◌≢◌, ◌⊎◌, ◌<◌, ◌≤◌, ℕ, ◌+◌, ◌-◌, ◌*◌, Bool, true, false, List, [], ◌∷◌, ◌++◌, Option, Some, None, length, slice_set, slice_index_or, if◌then◌else◌}
 use Rattle.command_set.specs.Replies.{is_granted}
 use Rattle.command_set.specs.Answers.{answer}
 use Rattle.command_set.specs.declared.journal.Run.{Run}
@@ -22,10 +22,13 @@ use Rattle.core_state.specs.declared.advance.Advance.TheVariants as advances
 use Rattle.core_state.specs.declared.seat.Seat.{Seat}
 use Rattle.core_events.specs.Advanced.{FailsBy}
 use Rattle.core_parts.specs.First.{first_core}
+use Rattle.draw_counts.specs.Drawn.{IsDrawn}
+use Rattle.script_text.specs.Scripts.{command_count}
 use Rattle.toast_core.specs.Cores.{IsCore}
 use Rattle.session_shell.specs.declared.hub.Turn.{Turn}
 use Rattle.session_shell.specs.declared.hub.Turn.TheVariants as turns
-use Rattle.session_shell.specs.Hubs.{HubState, IsLastEntry, is_one_step, replies_of}
+use Rattle.session_shell.specs.declared.hub.Progress.{Progress}
+use Rattle.session_shell.specs.Hubs.{HubState, IsHub, IsLastEntry, is_one_step, replies_of}
 
 -- how a turn ends: no command was left, the command goes on, or the command is over
 pub data End : Type 0 where
@@ -148,10 +151,14 @@ MomentEnds Nothing old s command new = ⊥
 MomentEnds More old s command new = MakesFirst old s command new advances.More
 MomentEnds Ended old s command new = (reply : Reply) × MakesFirst old s command new (advances.Done reply)
 
+-- memory is wanting to submit a command, or for its first event: the session's transaction has failed
+abbrev pub FailsFirst : CoreState → ℕ → Command → CoreState → Type 0
+FailsFirst old s command new = (new ≡ after_failing old s) ⊎ FailsBy (after_submit old s command) s new
+
 -- a command is submitted, and its moment is made; or memory is wanting for one of the two, and the session's transaction has failed
 abbrev pub EventFirst : Kind → End → CoreState → ℕ → Command → CoreState → Type 0
 EventFirst kinds.Run end old s command new = MomentEnds end old s command new
-EventFirst kinds.Memory end old s command new = (new ≡ after_failing old s) ⊎ FailsBy (after_submit old s command) s new
+EventFirst kinds.Memory end old s command new = FailsFirst old s command new
 EventFirst kind end old s command new = ⊥
 
 -- a step by which a command ends early: a draw that finds every id in use, or one for which memory is wanting
@@ -243,6 +250,11 @@ first_hub script = record {
 pub record HasTurned (hub : HubState) : Type 0 where
   pub turns : List TurnMade
   pub ran : Ran (first_hub hub.script) hub turns
+
+-- what is true of every hub with its progress, where its journal and its kept lines have room for so many
+abbrev pub Endures : HubState → List Progress → ℕ → ℕ → Type 0
+Endures hub progress entries lines =
+    IsHub hub progress × (2 * command_count hub.script ≤ entries) × (2 * command_count hub.script ≤ lines) × HasTurned hub × IsDrawn hub.script hub.core hub.journal
 
 -- how an answer says that a turn ended
 abbrev pub end_of : Turn → End

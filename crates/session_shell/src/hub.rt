@@ -1,10 +1,11 @@
 // A hub: a script, the store that runs it, and the journal of what came of its commands.
-ghost use Rattle.std.specs.Prelude.{◌≡◌, ◌+◌, ◌++◌, ◌-◌, ◌*◌, ◌<◌, ◌≤◌, ◌∷◌, ◌^◌, [], false, length, IfOk, IsTrue, MatchBool, None, OnErr, OnOk, Some, true, option_and_then, replicate, slice_get, slice_index_or, slice_set, vec_capacity, vec_len, if◌then◌else◌};
-ghost use Rattle.std.specs.Option.{option_copied, option_map};
+ghost use Rattle.std.specs.Prelude.{◌≡◌, ◌+◌, ◌++◌, ◌<◌, ◌≤◌, ◌∷◌, ◌^◌, [], false, length, IfOk, IsTrue, MatchBool, OnErr, OnOk, Some, true, option_and_then, replicate, slice_get, slice_index_or, slice_set, vec_capacity, vec_len, if◌then◌else◌};
+ghost use Rattle.std.specs.Option.{option_copied};
 ghost use Rattle.command_set.specs.Journals.{command_at, is_complete, is_legal};
 ghost use Rattle.script_text.specs.Scripts.{command_count};
 ghost use Rattle.core_state.specs.Events.{left};
-ghost use Rattle.core_state.specs.State.{is_past_moment, seat_of};
+ghost use Rattle.core_state.specs.State.{seat_of};
+ghost use Rattle.session_shell.specs.Hubs.{is_past, with_begun};
 ghost use Rattle.session_shell.specs.Lines.{no_line, with_reply};
 
 use crate::print::print_lines;
@@ -59,17 +60,16 @@ pub struct Hub {
 }
 
 impl Model for Hub {
-    ghost use Rattle.std.specs.Prelude.{◌*◌, ◌≤◌, vec_capacity};
-    ghost use Rattle.script_text.specs.Scripts.{command_count};
-    ghost use Rattle.session_shell.specs.Hubs.{HubState, IsHub};
-    ghost use Rattle.session_shell.specs.Turns.{HasTurned};
-    ghost use Rattle.draw_counts.specs.Drawn.{IsDrawn};
+    ghost use Rattle.std.specs.Prelude.{vec_capacity};
+    ghost use Rattle.session_shell.specs.Hubs.{HubState, hub_of};
+    ghost use Rattle.session_shell.specs.Turns.{Endures};
 
     ghost Value = { HubState };
 
-    ghost view = { λ hub. record { script = hub.script; core = hub.core; journal = hub.journal.items; kept = hub.kept.items } };
+    ghost view = { λ hub. hub_of hub.script hub.core hub.journal.items hub.kept.items };
 
-    ghost invariant = { λ hub. IsHub (record { script = hub.script; core = hub.core; journal = hub.journal.items; kept = hub.kept.items }) hub.progress.items × (2 * command_count hub.script ≤ vec_capacity hub.journal) × (2 * command_count hub.script ≤ vec_capacity hub.kept) × HasTurned (record { script = hub.script; core = hub.core; journal = hub.journal.items; kept = hub.kept.items }) × IsDrawn hub.script hub.core hub.journal.items };
+    ghost invariant = { λ hub. Endures (hub_of hub.script hub.core hub.journal.items hub.kept.items)
+        hub.progress.items (vec_capacity hub.journal) (vec_capacity hub.kept) };
 }
 
 impl Hub {
@@ -131,8 +131,8 @@ impl Hub {
         ensures own { TellsHub self.new }
         ensures legal { IsTrue (is_legal self.new.script self.new.journal) }
         ensures cause { result ≡ Turn.More → LastIsRun self.new session }
-        ensures left { is_past_moment (seat_of self.old.core session).job ≡ true → result ≡ Turn.More → left self.new.core session < left self.old.core session }
-        ensures under_way { result ≡ Turn.More → is_past_moment (seat_of self.new.core session).job ≡ true }
+        ensures left { is_past self.old.core session ≡ true → result ≡ Turn.More → left self.new.core session < left self.old.core session }
+        ensures under_way { result ≡ Turn.More → is_past self.new.core session ≡ true }
     {
         match self.core.busy_with(session) {
             Under::Nothing => self.begin_next(session),
@@ -147,7 +147,7 @@ impl Hub {
         ensures made { MakesTurn self.old session self.new result }
         ensures own { TellsHub self.new }
         ensures cause { result ≡ Turn.More → LastIsRun self.new session }
-        ensures under_way { result ≡ Turn.More → is_past_moment (seat_of self.new.core session).job ≡ true }
+        ensures under_way { result ≡ Turn.More → is_past self.new.core session ≡ true }
     {
         let at = (session - 1) as usize;
         let begun = self.progress[at].begun;
@@ -171,12 +171,12 @@ impl Hub {
     // A turn of a session whose command is under way.
     fn go_on(&mut self, session: u16) -> Turn
         requires session { IsSessionOf self.old.script session }
-        requires under_way { is_past_moment (seat_of self.old.core session).job ≡ true }
+        requires under_way { is_past self.old.core session ≡ true }
         ensures made { MakesTurn self.old session self.new result }
         ensures own { TellsHub self.new }
         ensures cause { result ≡ Turn.More → LastIsRun self.new session }
         ensures left { result ≡ Turn.More → left self.new.core session < left self.old.core session }
-        ensures under_way { result ≡ Turn.More → is_past_moment (seat_of self.new.core session).job ≡ true }
+        ensures under_way { result ≡ Turn.More → is_past self.new.core session ≡ true }
     {
         let at = (session - 1) as usize;
         let Progress { begun, entry, line } = self.progress[at];
@@ -448,7 +448,7 @@ fn record_first(
     requires lines { vec_len kept.old < 2 ^ 32 }
     ensures journal { journal.new.items ≡ journal.old.items ++ record { session = session; number = number; kind = first.kind } ∷ [] }
     ensures kept { kept.new.items ≡ kept.old.items ++ record { session = session; number = number; reply = first.reply } ∷ [] }
-    ensures progress { progress.new.items ≡ slice_set progress.old.items (session - 1) (record { begun = number; entry = length journal.old.items; line = length kept.old.items }) }
+    ensures progress { progress.new.items ≡ with_begun progress.old.items session number journal.old.items kept.old.items }
     ensures entries { vec_capacity journal.old ≤ vec_capacity journal.new }
     ensures lines { vec_capacity kept.old ≤ vec_capacity kept.new }
 {

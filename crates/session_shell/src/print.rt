@@ -10,7 +10,7 @@ use toast_io::Sink;
 /// Prints lines whose replies are all known. Once a write has failed nothing more is printed.
 pub fn print_lines<K: Sink>(printer: &mut Printer, sink: &mut K, kept: &[KeptLine])
     requires { AreSaid kept.now }
-    ensures { Prints (told (K.written sink.old) (K.faults sink.old)) (told (K.written sink.new) (K.faults sink.new)) printer.old printer.new (flat_map said_text kept.now) }
+    ensures { Prints (told K.Sink sink.old) (told K.Sink sink.new) printer.old printer.new (flat_map said_text kept.now) }
 {
     for line in kept {
         if printer.has_failed() {

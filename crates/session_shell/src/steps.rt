@@ -1,15 +1,13 @@
 // The steps of one command, as the hub records them.
-ghost use Rattle.std.specs.Prelude.{◌≡◌, ◌⊎◌, None, OnErr, IfOk, Some, if◌then◌else◌, false, true};
+ghost use Rattle.std.specs.Prelude.{◌≡◌, None, OnErr, IfOk, Some, if◌then◌else◌, false, true};
 ghost use Rattle.command_set.specs.Journals.{takes_no_memory};
-ghost use Rattle.core_events.specs.Advanced.{FailsBy};
 ghost use Rattle.core_state.specs.Commands.{IsFitting};
-ghost use Rattle.core_state.specs.Lines.{after_failing, after_submit};
 ghost use Rattle.core_state.specs.Moves.{Falls, OthersStay};
-ghost use Rattle.core_state.specs.State.{IsSession, is_past_moment, schemas_of, seat_of};
-ghost use Rattle.session_shell.specs.Hubs.{is_read};
+ghost use Rattle.core_state.specs.State.{IsSession, schemas_of, seat_of};
+ghost use Rattle.session_shell.specs.Hubs.{is_past, is_read};
 ghost use Rattle.toast_core.specs.Cores.{IsCore};
 ghost use Rattle.session_shell.specs.Steps.{BeginsBy, HasMade, IsGranted, IsStood, LaterMade, StepsLater, end_by, ended_by, kind_of, said_of};
-ghost use Rattle.session_shell.specs.Turns.{EventFirst, MakesFirst};
+ghost use Rattle.session_shell.specs.Turns.{EventFirst, FailsFirst, MakesFirst};
 
 use command_set::{Command, Kind, Reply};
 use core_state::seat::Job;
@@ -106,7 +104,7 @@ fn begin(core: &mut Core, session: u16, command: &Command) -> Result<Advance, Al
     ensures ok { IfOk result (MakesFirst core.old session command.now core.new) }
     ensures falls { OnErr result (Falls core.old session core.new) }
     ensures wanted { OnErr result (takes_no_memory command.now ≡ false) }
-    ensures failed { OnErr result ((core.new ≡ after_failing core.old session) ⊎ FailsBy (after_submit core.old session command.now) session core.new) }
+    ensures failed { OnErr result (FailsFirst core.old session command.now core.new) }
     ensures apart { OthersStay core.old session core.new }
     ensures kept { IsCore core.new }
 {
@@ -128,7 +126,7 @@ fn granted_reply(command: &Command) -> Option<Reply>
 // Makes the next step of a command under way.
 pub fn later_step(core: &mut Core, session: u16) -> Later
     requires session { IsSession core.old.seats session }
-    requires under_way { is_past_moment (seat_of core.old session).job ≡ true }
+    requires under_way { is_past core.old session ≡ true }
     requires granted { IsGranted core.old session }
     ensures steps { StepsLater core.old session core.new result }
     ensures event { LaterMade core.old session core.new result }

@@ -5,4 +5,4 @@ use Rattle.session_shell.specs.Text.{said_text}
 use Rattle.session_shell.proofs.print.print_lines.Given as goal
 
 abbrev pub invariant-loop-line : goal.invariant-loop-line
-invariant-loop-line g l = Prints (told (g.K.Sink.written l.initial.sink) (g.K.Sink.faults l.initial.sink)) (told (g.K.Sink.written l.sink) (g.K.Sink.faults l.sink)) l.initial.printer l.printer (flat_map said_text (take l.line-index l.kept))
+invariant-loop-line g l = Prints (told g.K.Sink l.initial.sink) (told g.K.Sink l.sink) l.initial.printer l.printer (flat_map said_text (take l.line-index l.kept))

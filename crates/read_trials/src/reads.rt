@@ -733,7 +733,7 @@ fn a_read_is_not_disturbed_by_the_events_of_others(rt: HostRuntime) -> Result<()
         0, 1, 1995, 1996, 1997, 3991, 3992, 3993, 5987, 5988, 5989, 7983, 7984, 7985, 9979, 9980,
     ];
     read_from_each(&rt, alloc, &mut store, &xacts, &mut others, value, &edges)?;
-    // So there were events of each kind while the reader had the leaf pinned, and while it had not.
+    // So there were sweeps while the reader had the leaf pinned, and while it had not.
     assert!(rt; others.swept > 30 && others.pinned > 30);
     Ok(())
 }
